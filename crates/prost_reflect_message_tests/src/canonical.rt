@@ -1,15 +1,15 @@
 //! Messages that are made in different ways, and are written the same.
 
 use crate::contents::is_shown;
-use crate::worked::{is_written, is_written_as, worked_type};
+use crate::worked::{bytes_of, decoded, empty, is_written, is_written_as, worked_type};
 use prost_reflect::{DynamicMessage, MapKey, Value};
 use std::alloc::{AllocError, Global};
 use std::collections::BTreeMap;
 use std::test::Fail;
 
 /// A message of `MyMessage` whose field 1 is set to 5 and then to the default.
-fn reset(alloc: Global) -> Result<DynamicMessage, Fail> {
-    let mut message = DynamicMessage::new(alloc, worked_type(alloc, "package.MyMessage")?);
+fn reset(alloc: Global) -> Result<&'static DynamicMessage, Fail> {
+    let message = empty(alloc, worked_type(alloc, "package.MyMessage")?)?;
     message.try_set_field_by_number(1, Value::I32(5))?;
     message.try_set_field_by_number(1, Value::I32(0))?;
     Ok(message)
@@ -37,22 +37,18 @@ fn differ_by_default(
 #[test]
 fn a_stored_default_is_written_as_none(rt: HostRuntime) -> Result<(), Fail> {
     let alloc = rt.alloc();
-    let fresh = DynamicMessage::new(alloc, worked_type(alloc, "package.MyMessage")?);
-    let set = reset(alloc)?;
-    assert!(rt; differ_by_default(alloc, &set, &fresh)?);
+    let fresh = empty(alloc, worked_type(alloc, "package.MyMessage")?)?;
+    assert!(rt; differ_by_default(alloc, reset(alloc)?, fresh)?);
     Ok(())
 }
 
-/// The message of the worked type of a name that the digits mean.
-fn decoded(alloc: Global, name: &str, digits: &str) -> Result<DynamicMessage, Fail> {
-    let bytes = hex::decode(alloc, digits)?;
-    Ok(DynamicMessage::decode(alloc, worked_type(alloc, name)?, bytes.as_slice())?)
-}
-
 /// A message of `MyMessage` whose field 3 holds a message of the worked type of a name that the digits mean.
-fn around(alloc: Global, name: &str, digits: &str) -> Result<DynamicMessage, Fail> {
-    let mut message = DynamicMessage::new(alloc, worked_type(alloc, "package.MyMessage")?);
-    message.try_set_field_by_number(3, Value::Message(decoded(alloc, name, digits)?))?;
+fn around(alloc: Global, name: &str, digits: &str) -> Result<&'static DynamicMessage, Fail> {
+    let message = empty(alloc, worked_type(alloc, "package.MyMessage")?)?;
+    let descriptor = worked_type(alloc, name)?;
+    let bytes = bytes_of(alloc, digits)?;
+    let inside = DynamicMessage::decode(alloc, descriptor.clone()?, bytes)?;
+    message.try_set_field_by_number(3, Value::Message(inside))?;
     Ok(message)
 }
 
@@ -72,7 +68,8 @@ fn is_written_and_shown(
 
 /// Whether the message is the one that the digits mean.
 fn is_decoded(alloc: Global, message: &DynamicMessage, digits: &str) -> Result<bool, Fail> {
-    Ok(*message == decoded(alloc, "package.MyMessage", digits)?)
+    let descriptor = worked_type(alloc, "package.MyMessage")?;
+    Ok(*message == *decoded(alloc, descriptor, bytes_of(alloc, digits)?)?)
 }
 
 /// A message inside is written by its own type. So one that is not of its field's type may be written as one that is, though
@@ -81,11 +78,11 @@ fn is_decoded(alloc: Global, message: &DynamicMessage, digits: &str) -> Result<b
 fn an_untyped_message_is_written_as_a_typed_one(rt: HostRuntime) -> Result<(), Fail> {
     let alloc = rt.alloc();
     let other = around(alloc, "b.Foo", "0801")?;
-    assert!(rt; is_written_and_shown(alloc, &other, false, ("1a020801", "3={1=[1 ] } "))?);
-    assert!(rt; !is_decoded(alloc, &other, "1a020801")?);
+    assert!(rt; is_written_and_shown(alloc, other, false, ("1a020801", "3={1=[1 ] } "))?);
+    assert!(rt; !is_decoded(alloc, other, "1a020801")?);
     let own = around(alloc, "package.MyMessage", "0801")?;
-    assert!(rt; is_written_and_shown(alloc, &own, true, ("1a020801", "3={1=1 } "))?);
-    assert!(rt; is_decoded(alloc, &own, "1a020801")?);
+    assert!(rt; is_written_and_shown(alloc, own, true, ("1a020801", "3={1=1 } "))?);
+    assert!(rt; is_decoded(alloc, own, "1a020801")?);
     Ok(())
 }
 
@@ -111,8 +108,8 @@ fn map_of(alloc: Global, pairs: &[(&str, i32); 2]) -> Result<Value, AllocError> 
 }
 
 /// A message of `P` whose map has the entries, put into it in this order.
-fn with_entries(alloc: Global, pairs: &[(&str, i32); 2]) -> Result<DynamicMessage, Fail> {
-    let mut message = DynamicMessage::new(alloc, worked_type(alloc, "a.P")?);
+fn with_entries(alloc: Global, pairs: &[(&str, i32); 2]) -> Result<&'static DynamicMessage, Fail> {
+    let message = empty(alloc, worked_type(alloc, "a.P")?)?;
     message.try_set_field_by_number(1, map_of(alloc, pairs)?)?;
     Ok(message)
 }
@@ -121,7 +118,7 @@ fn with_entries(alloc: Global, pairs: &[(&str, i32); 2]) -> Result<DynamicMessag
 fn entries_are_written_in_one_order(rt: HostRuntime) -> Result<(), Fail> {
     for pairs in [[("b", 1), ("a", 2)], [("a", 2), ("b", 1)]] {
         let message = with_entries(rt.alloc(), &pairs)?;
-        assert!(rt; is_written_as(rt.alloc(), &message, "0a050a016110020a050a01621001")?);
+        assert!(rt; is_written_as(rt.alloc(), message, "0a050a016110020a050a01621001")?);
     }
     Ok(())
 }

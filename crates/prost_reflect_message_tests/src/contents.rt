@@ -4,6 +4,7 @@ use prost_reflect::{
     DynamicMessage, ExtensionDescriptor, MapKey, PresentNumber, UnknownField, UnknownFieldValue,
     UnknownFields, Value,
 };
+use prost_reflect_samples::leaked;
 use std::alloc::{AllocError, Global};
 use std::collections::BTreeMap;
 use std::test::Fail;
@@ -13,16 +14,16 @@ use std::test::Fail;
 ///
 /// A list stands in square brackets, a map in round ones, a message in braces; a float is its bits, and bytes are an `x` and
 /// their digits.
-pub(crate) fn shown(alloc: Global, message: &DynamicMessage) -> Result<String, Fail> {
-    let mut out = String::new(alloc);
-    let numbers = message.present_numbers(alloc)?;
-    write_present(&mut out, message, numbers.as_slice())?;
-    Ok(out)
+pub(crate) fn shown(alloc: Global, message: &DynamicMessage) -> Result<&'static str, Fail> {
+    let out = leaked(alloc, String::new(alloc))?;
+    let numbers = leaked(alloc, message.present_numbers(alloc)?)?;
+    write_present(out, message, numbers.as_slice())?;
+    Ok(out.as_str())
 }
 
 /// Whether this text is shown of the message.
 pub(crate) fn is_shown(alloc: Global, message: &DynamicMessage, text: &str) -> Result<bool, Fail> {
-    Ok(shown(alloc, message)?.as_str() == text)
+    Ok(shown(alloc, message)? == text)
 }
 
 /// Writes what the message has at the numbers, which have to be all that are present.
@@ -57,7 +58,7 @@ fn write_field(out: &mut String, message: &DynamicMessage, number: u32) -> Resul
 
 fn write_extension(out: &mut String, message: &DynamicMessage, number: u32) -> Result<(), Fail> {
     write!(out, "[{number}]=")?;
-    let descriptor = message.descriptor()?;
+    let descriptor = leaked(*out.allocator(), message.descriptor()?)?;
     match descriptor.get_extension(number)? {
         Some(extension) => write_value_of(out, message, &extension),
         None => Err(Fail::from("no such extension")),
@@ -162,8 +163,11 @@ fn write_item(out: &mut String, value: &Value) -> Result<(), AllocError> {
 fn write_message(out: &mut String, message: &DynamicMessage) -> Result<(), AllocError> {
     out.push('{')?;
     for item in message.fields() {
-        let (field, value) = item?;
-        write_member(out, field.number(), value)?;
+        let (number, value) = {
+            let (field, value) = item?;
+            (field.number(), value)
+        };
+        write_member(out, number, value)?;
     }
     for field in message.unknown_fields() {
         write_unknown(out, field)?;

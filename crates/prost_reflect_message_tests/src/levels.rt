@@ -1,13 +1,14 @@
 //! Messages and groups that nest as deep as is allowed, and one level deeper; and a thousand entries of one key.
 
-use crate::worked::{fault, is_rewritten, passes, worked_type};
+use crate::worked::{bytes_of, fault, is_rewritten, passes, worked_type};
 use prost_reflect::DecodeError;
+use prost_reflect_samples::leaked;
 use std::alloc::{AllocError, Global};
 use std::test::Fail;
 
 /// The bytes as the field 3.
-fn as_field(alloc: Global, body: &[u8]) -> Result<Vec<u8>, AllocError> {
-    let mut bytes = Vec::new(alloc);
+fn as_field(alloc: Global, body: &[u8]) -> Result<&'static [u8], AllocError> {
+    let bytes = leaked(alloc, Vec::new(alloc))?;
     bytes.push(0x1a)?;
     if body.len() < 128 {
         bytes.push(body.len() as u8)?;
@@ -16,39 +17,44 @@ fn as_field(alloc: Global, body: &[u8]) -> Result<Vec<u8>, AllocError> {
         bytes.push((body.len() / 128 % 128) as u8)?;
     }
     bytes.extend_from_slice(body)?;
-    Ok(bytes)
+    Ok(bytes.as_slice())
 }
 
 /// The digits' bytes as the field 3 of so many messages inside one another.
-pub(crate) fn in_messages(alloc: Global, levels: usize, digits: &str) -> Result<Vec<u8>, Fail> {
-    let mut bytes = hex::decode(alloc, digits)?;
+pub(crate) fn in_messages(
+    alloc: Global,
+    levels: usize,
+    digits: &str,
+) -> Result<&'static [u8], Fail> {
+    let mut bytes = bytes_of(alloc, digits)?;
     for _ in 0..levels {
-        bytes = as_field(alloc, bytes.as_slice())?;
+        bytes = as_field(alloc, bytes)?;
     }
     Ok(bytes)
 }
 
 /// So many groups inside one another, by the bytes that open and that close one.
-fn in_groups(alloc: Global, levels: usize, open: u8, close: u8) -> Result<Vec<u8>, AllocError> {
-    let mut bytes = vec![in alloc; open; levels]?;
+fn in_groups(
+    alloc: Global,
+    levels: usize,
+    open: u8,
+    close: u8,
+) -> Result<&'static [u8], AllocError> {
+    let bytes = leaked(alloc, vec![in alloc; open; levels]?)?;
     bytes.extend_from_slice(vec![in alloc; close; levels]?.as_slice())?;
-    Ok(bytes)
-}
-
-/// Whether the bytes are read as the worked type, and written as the others.
-fn is_deep(alloc: Global, name: &str, bytes: &[u8], again: &[u8]) -> Result<bool, Fail> {
-    let descriptor = worked_type(alloc, name)?;
-    passes(alloc, &descriptor, bytes, again)
+    Ok(bytes.as_slice())
 }
 
 /// Whether the bytes are refused, and the fault stands inside of as many messages and groups as may be open.
 fn is_too_deep(alloc: Global, name: &str, bytes: &[u8]) -> Result<bool, Fail> {
     let descriptor = worked_type(alloc, name)?;
-    let Some(found) = descriptor.decode_fault(bytes) else {
-        return Ok(false);
-    };
-    let stands = found.error() == DecodeError::Depth && found.path().len() == 100;
-    Ok(stands && fault(alloc, descriptor, bytes) == Some(DecodeError::Depth))
+    let refused = fault(alloc, descriptor, bytes)? == Some(DecodeError::Depth);
+    match descriptor.decode_fault(bytes) {
+        Some(found) => {
+            Ok(refused && found.error() == DecodeError::Depth && found.path().len() == 100)
+        }
+        None => Ok(false),
+    }
 }
 
 /// A message type with a message of its own as the field 3, how many of these stand inside one another, the digits inside
@@ -73,7 +79,7 @@ fn a_hundred_levels_of_messages_are_read(rt: HostRuntime) -> Result<(), Fail> {
     for (name, levels, inside, again) in &DEEP {
         let bytes = in_messages(alloc, *levels, inside)?;
         let again = in_messages(alloc, *levels, again)?;
-        assert!(rt; is_deep(alloc, name, bytes.as_slice(), again.as_slice())?);
+        assert!(rt; passes(alloc, worked_type(alloc, name)?, bytes, again)?);
     }
     Ok(())
 }
@@ -83,7 +89,7 @@ fn one_level_of_messages_more_is_refused(rt: HostRuntime) -> Result<(), Fail> {
     let alloc = rt.alloc();
     for (name, levels, inside) in &TOO_DEEP {
         let bytes = in_messages(alloc, *levels, inside)?;
-        assert!(rt; is_too_deep(alloc, name, bytes.as_slice())?);
+        assert!(rt; is_too_deep(alloc, name, bytes)?);
     }
     Ok(())
 }
@@ -104,7 +110,7 @@ fn a_hundred_levels_of_groups_are_read(rt: HostRuntime) -> Result<(), Fail> {
     let alloc = rt.alloc();
     for (name, open, close) in &GROUPS {
         let bytes = in_groups(alloc, 100, *open, *close)?;
-        assert!(rt; is_deep(alloc, name, bytes.as_slice(), bytes.as_slice())?);
+        assert!(rt; passes(alloc, worked_type(alloc, name)?, bytes, bytes)?);
     }
     Ok(())
 }
@@ -114,25 +120,25 @@ fn one_level_of_groups_more_is_refused(rt: HostRuntime) -> Result<(), Fail> {
     let alloc = rt.alloc();
     for (name, open, close) in &GROUPS {
         let bytes = in_groups(alloc, 101, *open, *close)?;
-        assert!(rt; is_too_deep(alloc, name, bytes.as_slice())?);
+        assert!(rt; is_too_deep(alloc, name, bytes)?);
     }
     Ok(())
 }
 
 /// Entries of the key `a` with the values from 1 to 1000.
-fn entries(alloc: Global) -> Result<Vec<u8>, AllocError> {
-    let mut bytes = Vec::new(alloc);
+fn entries(alloc: Global) -> Result<&'static [u8], AllocError> {
+    let bytes = leaked(alloc, Vec::new(alloc))?;
     for value in 1..1001_u32 {
         let (low, high) = ((value % 128) as u8, (value / 128 % 128) as u8);
         bytes.extend_from_slice(&[0x0a, 6, 0x0a, 1, b'a', 0x10, low + 128, high])?;
     }
-    Ok(bytes)
+    Ok(bytes.as_slice())
 }
 
 #[test]
 fn the_last_of_a_thousand_entries_counts(rt: HostRuntime) -> Result<(), Fail> {
     let bytes = entries(rt.alloc())?;
     let again = [0x0a, 6, 0x0a, 1, b'a', 0x10, 0xe8, 7];
-    assert!(rt; is_rewritten(rt.alloc(), "a.P", bytes.as_slice(), &again)?);
+    assert!(rt; is_rewritten(rt.alloc(), "a.P", bytes, &again)?);
     Ok(())
 }

@@ -1,9 +1,9 @@
 //! Bytes that are merged into messages.
 
 use crate::relay::newer;
-use crate::worked::{is_written_as, message_type};
+use crate::worked::{bytes_of, empty, is_written_as, message_type};
 use prost_reflect::{DecodeError, DynamicMessage};
-use prost_reflect_samples::sets;
+use prost_reflect_samples::{leaked, sets};
 use std::alloc::{AllocError, Global};
 use std::test::Fail;
 
@@ -54,8 +54,7 @@ fn merge_digits(
     if !message.is_encodable() || !message.is_typed() {
         return Err(Fail::from("not as the fields want it"));
     }
-    let bytes = hex::decode(alloc, digits)?;
-    Ok(message.merge(bytes.as_slice()).err())
+    Ok(message.merge(bytes_of(alloc, digits)?).err())
 }
 
 /// Merges some digits' bytes into the message, and then others, and answers whether the former are read, and the latter
@@ -81,14 +80,14 @@ fn is_meant(
     digits: &str,
 ) -> Result<bool, Fail> {
     let meant = newer(alloc, name, digits)?;
-    Ok(*message == meant)
+    Ok(*message == *meant)
 }
 
-/// The digits behind one another.
-fn joined(alloc: Global, front: &str, behind: &str) -> Result<String, AllocError> {
-    let mut both = String::from_str(alloc, front)?;
+/// The digits behind one another, lent to the end of the run.
+fn joined(alloc: Global, front: &str, behind: &str) -> Result<&'static str, AllocError> {
+    let both = leaked(alloc, String::from_str(alloc, front)?)?;
     both.push_str(behind)?;
-    Ok(both)
+    Ok(both.as_str())
 }
 
 /// Whether a new message is the one that some digits' bytes mean, and written as others, once the bytes in front are merged
@@ -101,33 +100,22 @@ fn becomes(
     again: &str,
 ) -> Result<bool, Fail> {
     let (front, behind, refusal) = pieces;
-    let mut message = DynamicMessage::new(alloc, message_type(alloc, sets::newer(), name)?);
+    let message = empty(alloc, message_type(alloc, sets::newer(), name)?)?;
     Ok(
-        merges(alloc, &mut message, front, behind, refusal)?
-            && is_meant(alloc, &message, name, meant)?
-            && is_written_as(alloc, &message, again)?,
+        merges(alloc, message, front, behind, refusal)?
+            && is_meant(alloc, message, name, meant)?
+            && is_written_as(alloc, message, again)?,
     )
 }
 
-/// Whether pieces that are merged mean what they mean as one, and are written as these digits.
-fn mean_one(
-    alloc: Global,
-    name: &str,
-    front: &str,
-    behind: &str,
-    again: &str,
-) -> Result<bool, Fail> {
-    let both = joined(alloc, front, behind)?;
-    becomes(alloc, name, (front, behind, None), both.as_str(), again)
-}
-
+/// Pieces that are merged mean what they mean as one.
 #[test]
 fn pieces_are_merged(rt: HostRuntime) -> Result<(), Fail> {
+    let alloc = rt.alloc();
     for (name, front, behind, again) in &MERGES {
-        assert!(rt;
-            mean_one(rt.alloc(), name, front, behind, again)?,
-            "{front}"
-        );
+        let both = joined(alloc, front, behind)?;
+        let pieces: (&str, &str, Option<DecodeError>) = (front, behind, None);
+        assert!(rt; becomes(alloc, name, pieces, both, again)?, "{front}");
     }
     Ok(())
 }
@@ -145,8 +133,8 @@ fn loses_foo(alloc: Global, message: &mut DynamicMessage) -> Result<bool, Fail> 
 /// A 0 that is merged takes the place of a 5, and is no value of a field without presence.
 #[test]
 fn a_merged_default_is_not_had(rt: HostRuntime) -> Result<(), Fail> {
-    let mut message = newer(rt.alloc(), "package.MyMessage", "")?;
-    assert!(rt; loses_foo(rt.alloc(), &mut message)?);
+    let message = newer(rt.alloc(), "package.MyMessage", "")?;
+    assert!(rt; loses_foo(rt.alloc(), message)?);
     Ok(())
 }
 

@@ -1,9 +1,8 @@
 //! The fields that paths of numbers lead to.
 
 use crate::worked::message_type;
-use prost_reflect::MessageDescriptor;
 use prost_reflect_samples::sets;
-use std::alloc::{AllocError, Global};
+use std::alloc::Global;
 use std::test::Fail;
 
 /// A message type, a path, and the full name of the field that it leads to, or none: a number that no field has, that of an
@@ -21,19 +20,8 @@ static ROWS: [(&str, &[u32], &str); 10] = [
     ("Foo", &[100], ""),
 ];
 
-/// Whether a path leads to the field of the full name, or to none where that is empty.
-fn leads(
-    descriptor: &MessageDescriptor,
-    path: &[u32],
-    full_name: &str,
-) -> Result<bool, AllocError> {
-    match descriptor.get_field_by_path(path)? {
-        Some(field) => Ok(field.full_name() == full_name),
-        None => Ok(full_name.is_empty()),
-    }
-}
-
-/// Likewise, from the type of the name in the descriptor set.
+/// Whether a path leads from the type of the name in the descriptor set to the field of the full
+/// name, or to none where that is empty.
 fn leads_from(
     alloc: Global,
     set: &[u8],
@@ -41,8 +29,10 @@ fn leads_from(
     path: &[u32],
     full_name: &str,
 ) -> Result<bool, Fail> {
-    let descriptor = message_type(alloc, set, name)?;
-    Ok(leads(&descriptor, path, full_name)?)
+    match message_type(alloc, set, name)?.get_field_by_path(path)? {
+        Some(field) => Ok(field.full_name() == full_name),
+        None => Ok(full_name.is_empty()),
+    }
 }
 
 #[test]

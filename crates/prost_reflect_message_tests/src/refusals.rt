@@ -1,7 +1,8 @@
 //! Worked bytes that are refused, and a worked message that ends too early.
 
-use crate::worked::{fault, worked_type};
+use crate::worked::{bytes_of, fault, worked_type};
 use prost_reflect::DecodeError;
+use prost_reflect_samples::leaked;
 use std::alloc::Global;
 use std::test::Fail;
 
@@ -88,13 +89,16 @@ fn is_refused(
     offset: usize,
     path: &[u32],
 ) -> Result<bool, Fail> {
-    let bytes = hex::decode(alloc, digits)?;
+    let bytes = bytes_of(alloc, digits)?;
     let descriptor = worked_type(alloc, name)?;
-    let Some(found) = descriptor.decode_fault(bytes.as_slice()) else {
-        return Ok(false);
-    };
-    let stands = found.error() == error && found.offset() == offset && found.path() == path;
-    Ok(stands && fault(alloc, descriptor, bytes.as_slice()) == Some(error))
+    let refused = fault(alloc, descriptor, bytes)? == Some(error);
+    match descriptor.decode_fault(bytes) {
+        Some(found) => {
+            let stands = found.error() == error && found.offset() == offset;
+            Ok(refused && stands && found.path() == path)
+        }
+        None => Ok(false),
+    }
 }
 
 #[test]
@@ -108,22 +112,24 @@ fn worked_bytes_are_refused(rt: HostRuntime) -> Result<(), Fail> {
     Ok(())
 }
 
+/// Bytes that are refused, and the text of their fault.
+static SHOWN: [(&[u8], &str); 2] = [
+    (b"\x0e", "at 0: a key has no field number or no wire type"),
+    (
+        b"\x2b\x33\x00",
+        "5.6 at 2: a key has no field number or no wire type",
+    ),
+];
+
 /// The text of a fault names the path, where there is one, and the offset.
 #[test]
 fn faults_are_shown(rt: HostRuntime) -> Result<(), Fail> {
     let alloc = rt.alloc();
     let descriptor = worked_type(alloc, "package.MyMessage")?;
-    let plain = descriptor.decode_fault(&[0x0e]).ok_or("a message")?;
-    assert!(rt;
-        format!(in alloc; "{plain}")?.as_str() == "at 0: a key has no field number or no wire type"
-    );
-    let nested = descriptor
-        .decode_fault(&[0x2b, 0x33, 0])
-        .ok_or("a message")?;
-    assert!(rt;
-        format!(in alloc; "{nested}")?.as_str()
-            == "5.6 at 2: a key has no field number or no wire type"
-    );
+    for (bytes, text) in &SHOWN {
+        let found = leaked(alloc, descriptor.decode_fault(bytes).ok_or("a message")?)?;
+        assert!(rt; format!(in alloc; "{found}")?.as_str() == *text);
+    }
     Ok(())
 }
 
@@ -133,7 +139,7 @@ fn a_message_ends_between_its_records(rt: HostRuntime) -> Result<(), Fail> {
     let bytes = [0x08, 0x96, 0x01, 0x1a, 0x02, 0x10, 0x42];
     let descriptor = worked_type(rt.alloc(), "package.MyMessage")?;
     for len in 0..7 {
-        let found = fault(rt.alloc(), descriptor.clone()?, &bytes[..len]);
+        let found = fault(rt.alloc(), descriptor, &bytes[..len])?;
         let is_cut = len != 0 && len != 3;
         assert!(rt; found == is_cut.then_some(DecodeError::Truncated), "{len}");
     }

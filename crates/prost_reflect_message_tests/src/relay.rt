@@ -2,7 +2,7 @@
 
 use crate::contents::is_shown;
 use crate::levels::in_messages;
-use crate::worked::{message_type, passes};
+use crate::worked::{bytes_of, decoded, message_type, passes};
 use prost_reflect::{
     DecodeError, DynamicMessage, MessageDescriptor, RelayError, RelayHexError, RelayWithError,
     Value, relay, relay_hex, relay_with,
@@ -54,20 +54,23 @@ static REFUSED: [(&str, RelayHexError); 3] = [
     ),
 ];
 
-pub(crate) fn newer(alloc: Global, name: &str, digits: &str) -> Result<DynamicMessage, Fail> {
-    let bytes = hex::decode(alloc, digits)?;
+/// The message of a type's newer form that the digits' bytes mean, lent to the end of the run.
+pub(crate) fn newer(
+    alloc: Global,
+    name: &str,
+    digits: &str,
+) -> Result<&'static mut DynamicMessage, Fail> {
     let newer = message_type(alloc, sets::newer(), name)?;
-    Ok(DynamicMessage::decode(alloc, newer, bytes.as_slice())?)
+    decoded(alloc, newer, bytes_of(alloc, digits)?)
 }
 
 /// Whether the newer form of a type shows this text of the digits' bytes.
 fn is_shown_by_newer(alloc: Global, name: &str, digits: &str, text: &str) -> Result<bool, Fail> {
-    let message = newer(alloc, name, digits)?;
-    is_shown(alloc, &message, text)
+    is_shown(alloc, newer(alloc, name, digits)?, text)
 }
 
 /// Whether the bytes are relayed as others by an older type.
-fn relays_bytes(
+pub(crate) fn relays_bytes(
     alloc: Global,
     older: &MessageDescriptor,
     bytes: &[u8],
@@ -77,7 +80,7 @@ fn relays_bytes(
 }
 
 /// Whether the digits are relayed as others by an older type.
-fn relays_digits(
+pub(crate) fn relays_digits(
     alloc: Global,
     older: &MessageDescriptor,
     digits: &str,
@@ -94,25 +97,21 @@ fn relays(
     digits: &str,
     again: &str,
 ) -> Result<bool, Fail> {
-    let bytes = hex::decode(alloc, digits)?;
-    let expected = hex::decode(alloc, again)?;
+    let bytes = bytes_of(alloc, digits)?;
+    let expected = bytes_of(alloc, again)?;
     Ok(
         relays_digits(alloc, older, digits, again)?
-            && relays_bytes(alloc, older, bytes.as_slice(), expected.as_slice())?
-            && passes(alloc, older, bytes.as_slice(), expected.as_slice())?,
+            && relays_bytes(alloc, older, bytes, expected)?
+            && passes(alloc, older, bytes, expected)?,
     )
-}
-
-/// Whether the older form of a type relays the digits as others.
-fn older_relays(alloc: Global, name: &str, digits: &str, again: &str) -> Result<bool, Fail> {
-    let older = message_type(alloc, sets::older(), name)?;
-    relays(alloc, &older, digits, again)
 }
 
 #[test]
 fn messages_pass_through_older_types(rt: HostRuntime) -> Result<(), Fail> {
+    let alloc = rt.alloc();
     for (name, digits, again, _, _) in &ROWS {
-        assert!(rt; older_relays(rt.alloc(), name, digits, again)?, "{digits}");
+        let older = message_type(alloc, sets::older(), name)?;
+        assert!(rt; relays(alloc, older, digits, again)?, "{digits}");
     }
     Ok(())
 }
@@ -131,7 +130,7 @@ fn what_is_not_relayed_is_named(rt: HostRuntime) -> Result<(), Fail> {
     let alloc = rt.alloc();
     let older = message_type(alloc, sets::older(), "package.MyMessage")?;
     for (digits, refusal) in REFUSED {
-        let found = relay_hex(alloc, &older, digits).err();
+        let found = relay_hex(alloc, older, digits).err();
         assert!(rt; found == Some(refusal), "{digits}");
     }
     Ok(())
@@ -211,32 +210,24 @@ static OLDER_EDITS: [Edit; 3] = [
     ),
 ];
 
-/// Edits through the newer types.
+/// Edits through the newer types; the second one through the worked type too.
 static NEWER_EDITS: [Edit; 2] = [
     ("Q", "12021042", &[1], Setting::I32(0), "0800"),
     ("C", "0807", &[1], Setting::EnumNumber(1), "08010807"),
 ];
 
-static GROUP_EDITS: [Edit; 1] = [("G", "0b08010c", &[1], Setting::EmptyList, "")];
+/// An edit that empties a list of groups.
+static GROUP_EDIT: Edit = ("G", "0b08010c", &[1], Setting::EmptyList, "");
 
-static REPEATED_EDITS: [Edit; 1] = [("R", "0a001003", &[1], Setting::EmptyList, "1003")];
-
-static WORKED_EDITS: [Edit; 1] = [("C", "0807", &[1], Setting::EnumNumber(1), "08010807")];
+/// An edit that empties a list of messages, and keeps what is unknown.
+static REPEATED_EDIT: Edit = ("R", "0a001003", &[1], Setting::EmptyList, "1003");
 
 /// Whether the bytes of the digits are edited as the row says by the type in the descriptor set.
 fn is_edited(alloc: Global, set: &[u8], edit: &Edit) -> Result<bool, Fail> {
     let (name, digits, path, setting, again) = *edit;
-    let bytes = hex::decode(alloc, digits)?;
-    let again = hex::decode(alloc, again)?;
     let older = message_type(alloc, set, name)?;
-    edits(
-        alloc,
-        &older,
-        bytes.as_slice(),
-        path,
-        setting,
-        again.as_slice(),
-    )
+    let bytes = bytes_of(alloc, digits)?;
+    edits(alloc, older, bytes, path, setting, bytes_of(alloc, again)?)
 }
 
 #[test]
@@ -252,17 +243,15 @@ fn values_are_set_through_older_types(rt: HostRuntime) -> Result<(), Fail> {
 #[test]
 fn values_take_the_place_of_others(rt: HostRuntime) -> Result<(), Fail> {
     let alloc = rt.alloc();
-    for edit in &NEWER_EDITS {
-        assert!(rt; is_edited(alloc, sets::newer(), edit)?);
-    }
-    for edit in &GROUP_EDITS {
-        assert!(rt; is_edited(alloc, sets::groups(), edit)?);
-    }
-    for edit in &REPEATED_EDITS {
-        assert!(rt; is_edited(alloc, REPEATED, edit)?);
-    }
-    for edit in &WORKED_EDITS {
-        assert!(rt; is_edited(alloc, sets::worked(), edit)?);
+    let rows: [(&[u8], &Edit); 5] = [
+        (sets::newer(), &NEWER_EDITS[0]),
+        (sets::newer(), &NEWER_EDITS[1]),
+        (sets::groups(), &GROUP_EDIT),
+        (REPEATED, &REPEATED_EDIT),
+        (sets::worked(), &NEWER_EDITS[1]),
+    ];
+    for (set, edit) in rows {
+        assert!(rt; is_edited(alloc, set, edit)?);
     }
     Ok(())
 }
@@ -270,7 +259,7 @@ fn values_take_the_place_of_others(rt: HostRuntime) -> Result<(), Fail> {
 /// Whether the newer form of `MyMessage` reads the bytes, and has a message in it.
 fn newer_has_nested(alloc: Global, bytes: &[u8]) -> Result<bool, Fail> {
     let newer = message_type(alloc, sets::newer(), "package.MyMessage")?;
-    Ok(DynamicMessage::decode(alloc, newer, bytes)?.has_field_by_number(3))
+    Ok(decoded(alloc, newer, bytes)?.has_field_by_number(3))
 }
 
 #[test]
@@ -281,9 +270,9 @@ fn a_path_goes_down_a_hundred_levels(rt: HostRuntime) -> Result<(), Fail> {
     path[101] = 2;
     let expected = in_messages(alloc, 100, "1000")?;
     let zero = Setting::I32(0);
-    assert!(rt; edits(alloc, &older, &[], &path[1..], zero, expected.as_slice())?);
-    assert!(rt; newer_has_nested(alloc, expected.as_slice())?);
-    let refused = refusal(alloc, &older, &[], &path, zero);
+    assert!(rt; edits(alloc, older, &[], &path[1..], zero, expected)?);
+    assert!(rt; newer_has_nested(alloc, expected)?);
+    let refused = refusal(alloc, older, &[], &path, zero);
     assert!(rt; refused == Some(RelayWithError::NotFound));
     Ok(())
 }
@@ -343,9 +332,9 @@ fn refusal_by(
     path: &[u32],
     setting: Setting,
 ) -> Result<Option<RelayWithError>, Fail> {
-    let bytes = hex::decode(alloc, digits)?;
     let older = message_type(alloc, set, name)?;
-    Ok(refusal(alloc, &older, bytes.as_slice(), path, setting))
+    let bytes = bytes_of(alloc, digits)?;
+    Ok(refusal(alloc, older, bytes, path, setting))
 }
 
 #[test]
@@ -363,8 +352,8 @@ fn what_is_not_set_is_named(rt: HostRuntime) -> Result<(), Fail> {
 /// Why an empty message is not set at the field 3 in the bytes, if it is not.
 fn message_refusal(alloc: Global, bytes: &[u8]) -> Result<Option<RelayWithError>, Fail> {
     let descriptor = message_type(alloc, sets::newer(), "package.MyMessage")?;
-    let message = Value::Message(newer(alloc, "package.MyMessage", "")?);
-    Ok(relay_with(alloc, &descriptor, bytes, &[3], message).err())
+    let message = newer(alloc, "package.MyMessage", "")?.clone()?;
+    Ok(relay_with(alloc, descriptor, bytes, &[3], Value::Message(message)).err())
 }
 
 #[test]

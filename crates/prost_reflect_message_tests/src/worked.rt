@@ -2,7 +2,7 @@
 
 use crate::contents::{is_shown, shown};
 use prost_reflect::{DecodeError, DescriptorPool, DynamicMessage, MessageDescriptor, builtin_pool};
-use prost_reflect_samples::sets;
+use prost_reflect_samples::{leaked, sets};
 use std::alloc::Global;
 use std::test::Fail;
 
@@ -10,10 +10,14 @@ use std::test::Fail;
 pub(crate) static WITHOUT_EXTENSION: &[u8] =
     b"\x0a\x1c\x0a\x0bolder.proto\x12\x01b\"\x0a\x0a\x01X*\x05\x08d\x10\xc8\x01";
 
-/// The type of the name in the pool.
-pub(crate) fn type_in(pool: &DescriptorPool, name: &str) -> Result<MessageDescriptor, Fail> {
+/// The type of the name in the pool, lent to the end of the run.
+pub(crate) fn type_in(
+    alloc: Global,
+    pool: &DescriptorPool,
+    name: &str,
+) -> Result<&'static MessageDescriptor, Fail> {
     match pool.get_message_by_name(name)? {
-        Some(found) => Ok(found),
+        Some(found) => Ok(leaked(alloc, found)?),
         None => Err(Fail::from("no such message type")),
     }
 }
@@ -23,24 +27,41 @@ pub(crate) fn message_type(
     alloc: Global,
     set: &[u8],
     name: &str,
-) -> Result<MessageDescriptor, Fail> {
-    let pool = DescriptorPool::decode(alloc, set)?;
-    type_in(&pool, name)
-}
-
-/// The built-in type of the name.
-fn builtin_type(alloc: Global, name: &str) -> Result<MessageDescriptor, Fail> {
-    let pool = builtin_pool(alloc)?;
-    type_in(&pool, name)
+) -> Result<&'static MessageDescriptor, Fail> {
+    let pool = leaked(alloc, DescriptorPool::decode(alloc, set)?)?;
+    type_in(alloc, pool, name)
 }
 
 /// The type of the name in `worked`, or the built-in one.
-pub(crate) fn worked_type(alloc: Global, name: &str) -> Result<MessageDescriptor, Fail> {
+pub(crate) fn worked_type(alloc: Global, name: &str) -> Result<&'static MessageDescriptor, Fail> {
     if name.starts_with("builtin.") {
-        builtin_type(alloc, name)
+        type_in(alloc, leaked(alloc, builtin_pool(alloc)?)?, name)
     } else {
         message_type(alloc, sets::worked(), name)
     }
+}
+
+/// The bytes that the digits spell, lent to the end of the run.
+pub(crate) fn bytes_of(alloc: Global, digits: &str) -> Result<&'static [u8], Fail> {
+    Ok(leaked(alloc, hex::decode(alloc, digits)?)?.as_slice())
+}
+
+/// The message of the type that the bytes mean, lent to the end of the run.
+pub(crate) fn decoded(
+    alloc: Global,
+    descriptor: &MessageDescriptor,
+    bytes: &[u8],
+) -> Result<&'static mut DynamicMessage, Fail> {
+    let message = DynamicMessage::decode(alloc, descriptor.clone()?, bytes)?;
+    Ok(leaked(alloc, message)?)
+}
+
+/// An empty message of the type, lent to the end of the run.
+pub(crate) fn empty(
+    alloc: Global,
+    descriptor: &MessageDescriptor,
+) -> Result<&'static mut DynamicMessage, Fail> {
+    Ok(leaked(alloc, DynamicMessage::new(alloc, descriptor.clone()?))?)
 }
 
 /// A message type, the digits of bytes, those of what is written again, and what is shown of the message.
@@ -200,17 +221,16 @@ pub(crate) fn is_written_as(
     message: &DynamicMessage,
     digits: &str,
 ) -> Result<bool, Fail> {
-    let bytes = hex::decode(alloc, digits)?;
-    is_written(alloc, message, bytes.as_slice())
+    is_written(alloc, message, bytes_of(alloc, digits)?)
 }
 
 /// Why the bytes are no message of the type, if they are none.
 pub(crate) fn fault(
     alloc: Global,
-    descriptor: MessageDescriptor,
+    descriptor: &MessageDescriptor,
     bytes: &[u8],
-) -> Option<DecodeError> {
-    DynamicMessage::decode(alloc, descriptor, bytes).err()
+) -> Result<Option<DecodeError>, Fail> {
+    Ok(DynamicMessage::decode(alloc, descriptor.clone()?, bytes).err())
 }
 
 /// Why the bytes are no message of the type, as the search for a fault says, if they are none.
@@ -221,14 +241,15 @@ fn fault_found(descriptor: &MessageDescriptor, bytes: &[u8]) -> Option<DecodeErr
     }
 }
 
-/// The message that the bytes mean. Each part in front of their end is read too, or ends too early, and its fault is found.
+/// The message that the bytes mean, lent to the end of the run. Each part in front of their end is
+/// read too, or ends too early, and its fault is found.
 pub(crate) fn read(
     alloc: Global,
     descriptor: &MessageDescriptor,
     bytes: &[u8],
-) -> Result<DynamicMessage, Fail> {
+) -> Result<&'static DynamicMessage, Fail> {
     for len in 0..bytes.len() {
-        let fault = fault(alloc, descriptor.clone()?, &bytes[..len]);
+        let fault = fault(alloc, descriptor, &bytes[..len])?;
         if fault.is_some_and(|fault| fault != DecodeError::Truncated) {
             return Err(Fail::from("a part with another fault"));
         }
@@ -239,7 +260,7 @@ pub(crate) fn read(
     if fault_found(descriptor, bytes).is_some() {
         return Err(Fail::from("a fault of a message"));
     }
-    Ok(DynamicMessage::decode(alloc, descriptor.clone()?, bytes)?)
+    Ok(decoded(alloc, descriptor, bytes)?)
 }
 
 /// Whether the message of the worked type that the bytes mean is written as the others.
@@ -249,7 +270,7 @@ pub(crate) fn is_rewritten(
     bytes: &[u8],
     again: &[u8],
 ) -> Result<bool, Fail> {
-    let message = DynamicMessage::decode(alloc, worked_type(alloc, name)?, bytes)?;
+    let message = DynamicMessage::decode(alloc, worked_type(alloc, name)?.clone()?, bytes)?;
     is_written(alloc, &message, again)
 }
 
@@ -261,17 +282,7 @@ pub(crate) fn passes(
     again: &[u8],
 ) -> Result<bool, Fail> {
     let message = read(alloc, descriptor, bytes)?;
-    Ok(is_written(alloc, &message, again)? && !shown(alloc, &message)?.is_empty())
-}
-
-/// The message of the type that the digits' bytes mean.
-fn read_digits(
-    alloc: Global,
-    descriptor: &MessageDescriptor,
-    digits: &str,
-) -> Result<DynamicMessage, Fail> {
-    let bytes = hex::decode(alloc, digits)?;
-    read(alloc, descriptor, bytes.as_slice())
+    Ok(is_written(alloc, message, again)? && !shown(alloc, message)?.is_empty())
 }
 
 /// Whether the message that the digits' bytes mean is written as those of the others, and shown as the text.
@@ -282,27 +293,17 @@ fn is_worked(
     again: &str,
     text: &str,
 ) -> Result<bool, Fail> {
-    let message = read_digits(alloc, descriptor, digits)?;
-    Ok(is_written_as(alloc, &message, again)? && is_shown(alloc, &message, text)?)
-}
-
-/// Likewise, of the worked type of the name.
-fn is_worked_of(
-    alloc: Global,
-    name: &str,
-    digits: &str,
-    again: &str,
-    text: &str,
-) -> Result<bool, Fail> {
-    let descriptor = worked_type(alloc, name)?;
-    is_worked(alloc, &descriptor, digits, again, text)
+    let message = read(alloc, descriptor, bytes_of(alloc, digits)?)?;
+    Ok(is_written_as(alloc, message, again)? && is_shown(alloc, message, text)?)
 }
 
 #[test]
 fn worked_messages_are_written_again(rt: HostRuntime) -> Result<(), Fail> {
+    let alloc = rt.alloc();
     for (name, digits, again, text) in &WRITTEN {
+        let descriptor = worked_type(alloc, name)?;
         assert!(rt;
-            is_worked_of(rt.alloc(), name, digits, again, text)?,
+            is_worked(alloc, descriptor, digits, again, text)?,
             "{digits}"
         );
     }
@@ -313,6 +314,6 @@ fn worked_messages_are_written_again(rt: HostRuntime) -> Result<(), Fail> {
 #[test]
 fn an_extension_that_is_not_known_stays(rt: HostRuntime) -> Result<(), Fail> {
     let descriptor = message_type(rt.alloc(), WITHOUT_EXTENSION, "b.X")?;
-    assert!(rt; is_worked(rt.alloc(), &descriptor, "a00607", "a00607", "100?7 ")?);
+    assert!(rt; is_worked(rt.alloc(), descriptor, "a00607", "a00607", "100?7 ")?);
     Ok(())
 }

@@ -1,6 +1,6 @@
 //! Files that protoc wrote, added in each way, and written again.
 
-use crate::named::{file_of, message_of};
+use crate::named::{file_of, message_of, pool_of};
 use crate::pools::{SET_M, is_written_as, joined, refusal};
 use crate::schema::SCHEMA;
 use crate::whole::WHOLE;
@@ -8,6 +8,7 @@ use prost_reflect::{
     DecodeError, DescriptorPool, FileDescriptor, FileDescriptorSet, MessageDescriptor, PoolError,
     Proto,
 };
+use prost_reflect_samples::leaked;
 use std::alloc::Global;
 use std::test::Fail;
 
@@ -15,62 +16,60 @@ use std::test::Fail;
 const LAST: usize = 374;
 
 /// A pool to which a set is added.
-fn of_set(alloc: Global, bytes: &[u8]) -> Result<DescriptorPool, Fail> {
-    let mut pool = DescriptorPool::new(alloc)?;
+fn of_set(alloc: Global, bytes: &[u8]) -> Result<&'static mut DescriptorPool, Fail> {
+    let pool = leaked(alloc, DescriptorPool::new(alloc)?)?;
     pool.add_file_descriptor_set(FileDescriptorSet::decode(alloc, bytes)?)?;
     Ok(pool)
 }
 
 /// A pool to which a set is added, and then the list of the files of another.
-fn of_set_and_list(alloc: Global, bytes: &[u8], list: &[u8]) -> Result<DescriptorPool, Fail> {
-    let mut pool = of_set(alloc, bytes)?;
+fn of_set_and_list(
+    alloc: Global,
+    bytes: &[u8],
+    list: &[u8],
+) -> Result<&'static DescriptorPool, Fail> {
+    let pool = of_set(alloc, bytes)?;
     pool.add_file_descriptor_protos(FileDescriptorSet::decode(alloc, list)?.file)?;
     Ok(pool)
 }
 
 /// Whether a pool of the bytes is equal, and these are written of the pool.
 fn is_read_and_written(alloc: Global, pool: &DescriptorPool, bytes: &[u8]) -> Result<bool, Fail> {
-    let is_equal = *pool == DescriptorPool::decode(alloc, bytes)?;
-    let mut written = Vec::new(alloc);
-    pool.encode(&mut written)?;
-    Ok(is_equal && written.as_slice() == bytes)
+    let written = leaked(alloc, Vec::new(alloc))?;
+    pool.encode(written)?;
+    Ok(*pool == *pool_of(alloc, bytes)? && written.as_slice() == bytes)
 }
 
 /// Records are added as a set and as a list, and a pool of the bytes of both is equal.
 #[test]
 fn records_are_added(rt: HostRuntime) -> Result<(), Fail> {
     let pool = of_set(rt.alloc(), SCHEMA)?;
-    assert!(rt; is_written_as(rt.alloc(), &pool, SCHEMA)?);
+    assert!(rt; is_written_as(rt.alloc(), pool, SCHEMA)?);
     let both = joined(rt.alloc(), SCHEMA, WHOLE)?;
     let pool = of_set_and_list(rt.alloc(), SCHEMA, WHOLE)?;
-    assert!(rt; is_read_and_written(rt.alloc(), &pool, &both)?);
+    assert!(rt; is_read_and_written(rt.alloc(), pool, both)?);
     Ok(())
 }
 
-fn whole_file(alloc: Global) -> Result<FileDescriptor, Fail> {
-    let pool = DescriptorPool::decode(alloc, WHOLE)?;
-    file_of(&pool, "whole.proto")
-}
-
 /// The bytes in front, and the file behind them.
-fn with_file(alloc: Global, front: &[u8], file: &FileDescriptor) -> Result<Vec<u8>, Fail> {
-    let mut written = Vec::from_slice(alloc, front)?;
-    file.encode(&mut written)?;
+fn with_file(alloc: Global, front: &[u8], file: &FileDescriptor) -> Result<&'static Vec<u8>, Fail> {
+    let written = leaked(alloc, Vec::from_slice(alloc, front)?)?;
+    file.encode(written)?;
     Ok(written)
 }
 
 #[test]
 fn a_file_is_written_again(rt: HostRuntime) -> Result<(), Fail> {
-    let file = whole_file(rt.alloc())?;
+    let file = file_of(rt.alloc(), pool_of(rt.alloc(), WHOLE)?, "whole.proto")?;
     assert!(rt; file.encode_to_vec(rt.alloc())?.as_slice() == &WHOLE[LAST..]);
-    assert!(rt; with_file(rt.alloc(), &WHOLE[..LAST], &file)?.as_slice() == WHOLE);
+    assert!(rt; with_file(rt.alloc(), &WHOLE[..LAST], file)?.as_slice() == WHOLE);
     Ok(())
 }
 
 /// No bytes are a set without files; any other part in front of a set's end is refused.
 #[test]
 fn a_set_that_ends_early_is_refused(rt: HostRuntime) -> Result<(), Fail> {
-    let none = DescriptorPool::decode(rt.alloc(), &[])?;
+    let none = pool_of(rt.alloc(), &[])?;
     assert!(rt; none.files().next().is_none());
     for len in 1..SET_M.len() {
         let refused = refusal(rt.alloc(), &SET_M[..len]);
@@ -113,9 +112,9 @@ fn member_counts(message: &MessageDescriptor) -> [usize; 4] {
 /// How many definitions the lists have is known before they are walked, and while they are.
 #[test]
 fn lists_are_of_known_length(rt: HostRuntime) -> Result<(), Fail> {
-    let pool = DescriptorPool::decode(rt.alloc(), WHOLE)?;
-    assert!(rt; file_counts(&pool) == [3, 2]);
-    assert!(rt; counts(&pool) == [9, 2, 2, 1]);
-    assert!(rt; member_counts(&message_of(&pool, "w.x.A")?) == [3, 2, 2, 1]);
+    let pool = pool_of(rt.alloc(), WHOLE)?;
+    assert!(rt; file_counts(pool) == [3, 2]);
+    assert!(rt; counts(pool) == [9, 2, 2, 1]);
+    assert!(rt; member_counts(message_of(rt.alloc(), pool, "w.x.A")?) == [3, 2, 2, 1]);
     Ok(())
 }

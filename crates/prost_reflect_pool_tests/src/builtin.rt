@@ -1,15 +1,16 @@
 //! The built-in message types, found by name and by number, and the records of their files.
 
-use crate::named::message_of;
+use crate::named::{field_of, message_of};
 use prost_reflect::{DescriptorPool, FieldDescriptor, Kind, MessageDescriptor, builtin_pool};
+use prost_reflect_samples::leaked;
 use prost_reflect_tables::Cardinality;
 use prost_reflect_types::{DescriptorProto, FieldDescriptorProto, FileDescriptorProto};
 use std::alloc::{AllocError, Global};
 use std::test::Fail;
 
-fn builtin(alloc: Global, name: &str) -> Result<MessageDescriptor, Fail> {
-    let pool = builtin_pool(alloc)?;
-    message_of(&pool, name)
+/// The pool of the built-in types.
+fn builtins(alloc: Global) -> Result<&'static DescriptorPool, Fail> {
+    Ok(leaked(alloc, builtin_pool(alloc)?)?)
 }
 
 /// Whether a copy of the message type is equal.
@@ -19,28 +20,23 @@ fn is_its_copy(message: &MessageDescriptor) -> Result<bool, AllocError> {
 
 #[test]
 fn message_types_are_found_by_name(rt: HostRuntime) -> Result<(), Fail> {
-    let plain = builtin(rt.alloc(), "builtin.Plain")?;
+    let plain = message_of(rt.alloc(), builtins(rt.alloc())?, "builtin.Plain")?;
     assert!(rt; plain.full_name() == "builtin.Plain");
-    assert!(rt; is_its_copy(&plain)?);
+    assert!(rt; is_its_copy(plain)?);
     Ok(())
 }
 
-/// The field of the number.
-fn kept_field(alloc: Global, number: u32) -> Result<FieldDescriptor, Fail> {
-    let kept = builtin(alloc, "builtin.Kept")?;
-    Ok(kept.get_field(number)?.ok_or("no such field")?)
-}
-
+/// Whether the field is `f_sint32`, an optional one of the number 17.
 fn is_f_sint32(field: &FieldDescriptor) -> Result<bool, AllocError> {
-    let is_sint32 = field.kind()? == Kind::Sint32;
+    let is_sint32 = matches!(field.kind()?, Kind::Sint32);
     let is_optional = field.cardinality() == Cardinality::Optional && field.supports_presence();
     Ok(is_sint32 && is_optional && field.number() == 17 && field.name() == "f_sint32")
 }
 
 #[test]
 fn fields_are_found_by_number(rt: HostRuntime) -> Result<(), Fail> {
-    let field = kept_field(rt.alloc(), 17)?;
-    assert!(rt; is_f_sint32(&field)?);
+    let field = field_of(rt.alloc(), builtins(rt.alloc())?, "builtin.Kept", 17)?;
+    assert!(rt; is_f_sint32(field)?);
     Ok(())
 }
 
@@ -161,8 +157,7 @@ fn has_files(pool: &DescriptorPool) -> bool {
 
 #[test]
 fn built_in_files_have_scalar_fields(rt: HostRuntime) -> Result<(), Fail> {
-    let pool = builtin_pool(rt.alloc())?;
-    assert!(rt; has_files(&pool));
+    assert!(rt; has_files(builtins(rt.alloc())?));
     Ok(())
 }
 
@@ -188,10 +183,11 @@ fn has_row(message: &MessageDescriptor, number: u32, presence: bool) -> Result<b
 /// The numbers 10, 11, 14 and those above 18 are of no field. All fields of `Kept` have presence, and none of `Plain`.
 #[test]
 fn built_in_types_know_their_numbers(rt: HostRuntime) -> Result<(), Fail> {
+    let pool = builtins(rt.alloc())?;
     for (name, presence) in [("builtin.Plain", false), ("builtin.Kept", true)] {
-        let message = builtin(rt.alloc(), name)?;
+        let message = message_of(rt.alloc(), pool, name)?;
         for number in 0..30_u32 {
-            assert!(rt; has_row(&message, number, presence)?, "{number}");
+            assert!(rt; has_row(message, number, presence)?, "{number}");
         }
     }
     Ok(())

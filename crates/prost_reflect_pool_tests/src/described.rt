@@ -1,13 +1,14 @@
 //! What descriptors say of definitions: names, paths, orders, labels and streams.
 
 use crate::descriptors::K_AND_O;
-use crate::named::{message_of, method_of, oneof_of};
+use crate::named::{message_of, method_of, oneof_of, pool_of};
 use crate::pools::SET_M;
 use crate::whole::WHOLE;
 use prost_reflect::{
-    DescriptorPool, EnumDescriptor, EnumValueDescriptors, ExtensionDescriptor, FieldDescriptor,
-    FieldDescriptors, MessageDescriptor, MethodDescriptor, OneofDescriptor,
+    EnumDescriptor, EnumValueDescriptors, ExtensionDescriptor, FieldDescriptors, MessageDescriptor,
+    MethodDescriptor, OneofDescriptor,
 };
+use prost_reflect_samples::leaked;
 use std::alloc::{AllocError, Global};
 use std::test::Fail;
 
@@ -32,9 +33,9 @@ static V_AND_W: &[u8] =
     \x03(\x05B\x02\x18\x01R\x09topValuesb\x06proto3";
 
 /// The only enum of `SET_S`.
-fn enum_e(alloc: Global) -> Result<EnumDescriptor, Fail> {
-    let pool = DescriptorPool::decode(alloc, SET_S)?;
-    Ok(pool.all_enums().next().ok_or("no enum")??)
+fn enum_e(alloc: Global) -> Result<&'static EnumDescriptor, Fail> {
+    let first = pool_of(alloc, SET_S)?.all_enums().next();
+    Ok(leaked(alloc, first.ok_or("no enum")??)?)
 }
 
 /// Whether the next value has the name.
@@ -51,6 +52,7 @@ fn are_a_c_b(mut values: EnumValueDescriptors<'_>) -> Result<bool, Fail> {
     Ok(a && c && b && values.next().is_none())
 }
 
+/// Whether the default of the enum has the name.
 fn default_is(e: &EnumDescriptor, name: &str) -> Result<bool, AllocError> {
     Ok(e.default_value()?.name() == name)
 }
@@ -68,23 +70,25 @@ fn finds_a(e: &EnumDescriptor) -> Result<bool, Fail> {
 fn values_are_listed_by_number(rt: HostRuntime) -> Result<(), Fail> {
     let e = enum_e(rt.alloc())?;
     assert!(rt; are_a_c_b(e.values())?);
-    assert!(rt; default_is(&e, "B")?);
-    assert!(rt; finds_a(&e)?);
+    assert!(rt; default_is(e, "B")?);
+    assert!(rt; finds_a(e)?);
     Ok(())
 }
 
+/// Whether the extension has the name in JSON, and the place, of `x`.
 fn is_extension_x(extension: &ExtensionDescriptor) -> bool {
     extension.json_name() == "[p.M.x]" && extension.path() == [4, 0, 6, 0].as_slice()
 }
 
 #[test]
 fn an_extension_has_its_name_in_brackets_in_json(rt: HostRuntime) -> Result<(), Fail> {
-    let pool = DescriptorPool::decode(rt.alloc(), SET_S)?;
-    let extension = pool.all_extensions().next().ok_or("no extension")??;
-    assert!(rt; is_extension_x(&extension));
+    let first = pool_of(rt.alloc(), SET_S)?.all_extensions().next();
+    let extension = leaked(rt.alloc(), first.ok_or("no extension")??)?;
+    assert!(rt; is_extension_x(extension));
     Ok(())
 }
 
+/// Whether the method is `Go`, to which alone messages are streamed.
 fn is_method_go(method: &MethodDescriptor) -> bool {
     method.full_name() == "p.S.Go"
         && method.path() == [6, 0, 2, 0].as_slice()
@@ -94,8 +98,8 @@ fn is_method_go(method: &MethodDescriptor) -> bool {
 
 #[test]
 fn a_method_says_what_is_streamed(rt: HostRuntime) -> Result<(), Fail> {
-    let pool = DescriptorPool::decode(rt.alloc(), SET_S)?;
-    assert!(rt; is_method_go(&method_of(&pool, "p.S")?));
+    let method = method_of(rt.alloc(), pool_of(rt.alloc(), SET_S)?, "p.S")?;
+    assert!(rt; is_method_go(method));
     Ok(())
 }
 
@@ -107,6 +111,7 @@ fn has_nested(message: &MessageDescriptor) -> Result<bool, Fail> {
     Ok(is_named && is_third && nested.supports_presence())
 }
 
+/// Whether the oneof is `optional`, which is declared.
 fn is_optional(oneof: &OneofDescriptor) -> bool {
     oneof.name() == "optional" && oneof.path() == [4, 0, 8, 0].as_slice() && !oneof.is_synthetic()
 }
@@ -119,15 +124,16 @@ fn is_bar_alone(mut members: FieldDescriptors<'_>) -> Result<bool, Fail> {
 
 #[test]
 fn a_oneof_lists_its_fields(rt: HostRuntime) -> Result<(), Fail> {
-    let pool = DescriptorPool::decode(rt.alloc(), SET_M)?;
-    let message = message_of(&pool, "package.MyMessage")?;
-    assert!(rt; has_nested(&message)?);
-    let oneof = oneof_of(&message)?;
-    assert!(rt; is_optional(&oneof));
+    let pool = pool_of(rt.alloc(), SET_M)?;
+    let message = message_of(rt.alloc(), pool, "package.MyMessage")?;
+    assert!(rt; has_nested(message)?);
+    let oneof = oneof_of(rt.alloc(), message)?;
+    assert!(rt; is_optional(oneof));
     assert!(rt; is_bar_alone(oneof.fields())?);
     Ok(())
 }
 
+/// Whether the extension of the number is packed.
 fn extension_is_packed(message: &MessageDescriptor, number: u32) -> Result<bool, Fail> {
     let extension = message.get_extension(number)?.ok_or("no such extension")?;
     Ok(extension.is_packed())
@@ -144,9 +150,9 @@ fn are_packed(message: &MessageDescriptor) -> Result<[bool; 3], Fail> {
 /// Options that say nothing of packing leave it to the syntax.
 #[test]
 fn lists_are_packed_in_proto3(rt: HostRuntime) -> Result<(), Fail> {
-    let pool = DescriptorPool::decode(rt.alloc(), V_AND_W)?;
-    assert!(rt; are_packed(&message_of(&pool, "v.V")?)? == [false; 3]);
-    assert!(rt; are_packed(&message_of(&pool, "w.W")?)? == [true; 3]);
+    let pool = pool_of(rt.alloc(), V_AND_W)?;
+    assert!(rt; are_packed(message_of(rt.alloc(), pool, "v.V")?)? == [false; 3]);
+    assert!(rt; are_packed(message_of(rt.alloc(), pool, "w.W")?)? == [true; 3]);
     Ok(())
 }
 
@@ -163,8 +169,8 @@ fn key_and_value(message: &MessageDescriptor) -> Result<Option<bool>, AllocError
 
 /// The same of the type of the name in the descriptor set.
 fn key_and_value_in(alloc: Global, set: &[u8], name: &str) -> Result<Option<bool>, Fail> {
-    let pool = DescriptorPool::decode(alloc, set)?;
-    Ok(key_and_value(&message_of(&pool, name)?)?)
+    let message = message_of(alloc, pool_of(alloc, set)?, name)?;
+    Ok(key_and_value(message)?)
 }
 
 #[test]

@@ -1,7 +1,8 @@
 //! What descriptors answer: where they stand, and which enums are closed.
 
-use crate::named::field_of;
+use crate::named::{field_of, pool_of};
 use prost_reflect::{DescriptorPool, FieldDescriptor, Kind};
+use std::alloc::Global;
 use std::test::Fail;
 
 /// `k.proto`, of proto2: `message M { optional E e = 1; map<string, int32> m = 2; } enum E { ZERO = 0; }` in `k`. And
@@ -21,8 +22,8 @@ fn stands_in(field: &FieldDescriptor, pool: &DescriptorPool, message: &str) -> b
 
 #[test]
 fn a_field_stands_in_its_message(rt: HostRuntime) -> Result<(), Fail> {
-    let pool = DescriptorPool::decode(rt.alloc(), K_AND_O)?;
-    assert!(rt; stands_in(&field_of(&pool, "k.M", 2)?, &pool, "k.M"));
+    let pool = pool_of(rt.alloc(), K_AND_O)?;
+    assert!(rt; stands_in(field_of(rt.alloc(), pool, "k.M", 2)?, pool, "k.M"));
     Ok(())
 }
 
@@ -40,20 +41,21 @@ fn is_enum(kind: &Kind, pool: &DescriptorPool, full_name: &str, is_closed: bool)
 
 /// Whether the kind of the field 1 of the message type is that enum.
 fn has_enum(
+    alloc: Global,
     pool: &DescriptorPool,
     message: &str,
     full_name: &str,
     is_closed: bool,
 ) -> Result<bool, Fail> {
-    let kind = field_of(pool, message, 1)?.kind()?;
+    let kind = field_of(alloc, pool, message, 1)?.kind()?;
     Ok(is_enum(&kind, pool, full_name, is_closed))
 }
 
 /// An enum of proto2 is closed, one of proto3 is not.
 #[test]
 fn enums_are_closed_or_open(rt: HostRuntime) -> Result<(), Fail> {
-    let pool = DescriptorPool::decode(rt.alloc(), K_AND_O)?;
-    assert!(rt; has_enum(&pool, "k.M", "k.E", true)?);
-    assert!(rt; has_enum(&pool, "o.M", "o.E", false)?);
+    let pool = pool_of(rt.alloc(), K_AND_O)?;
+    assert!(rt; has_enum(rt.alloc(), pool, "k.M", "k.E", true)?);
+    assert!(rt; has_enum(rt.alloc(), pool, "o.M", "o.E", false)?);
     Ok(())
 }

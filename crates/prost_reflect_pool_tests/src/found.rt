@@ -1,11 +1,12 @@
 //! By which names and numbers the definitions of a whole set are found, and that nothing is found by others.
 
-use crate::named::{enum_of, field_of, message_of};
+use crate::named::{enum_of, field_of, message_of, pool_of};
 use crate::whole::WHOLE;
 use prost_reflect::{
     DescriptorPool, EnumDescriptor, ExtensionDescriptor, FieldDescriptor, Kind, MessageDescriptor,
 };
-use std::alloc::AllocError;
+use prost_reflect_samples::leaked;
+use std::alloc::{AllocError, Global};
 use std::process::Abort;
 use std::test::Fail;
 
@@ -27,6 +28,7 @@ static NAMES: [(&str, [bool; 5]); 13] = [
     ("", [false; 5]),
 ];
 
+/// Which of a file, a message type, an enum, an extension and a service are found by the name.
 fn found_in_pool(pool: &DescriptorPool, name: &str) -> Result<[bool; 5], AllocError> {
     let file = pool.get_file_by_name(name)?.is_some();
     let message = pool.get_message_by_name(name)?.is_some();
@@ -51,6 +53,7 @@ static MEMBERS: [(&str, &str, [u32; 4]); 10] = [
     ("w.x.Other", "c", [0; 4]),
 ];
 
+/// The number of the field, and 0 for none.
 fn number_of_field(found: Option<FieldDescriptor>) -> u32 {
     match found {
         Some(field) => field.number(),
@@ -58,6 +61,7 @@ fn number_of_field(found: Option<FieldDescriptor>) -> u32 {
     }
 }
 
+/// The number of the extension, and 0 for none.
 fn number_of_extension(found: Option<ExtensionDescriptor>) -> u32 {
     match found {
         Some(extension) => extension.number(),
@@ -65,6 +69,7 @@ fn number_of_extension(found: Option<ExtensionDescriptor>) -> u32 {
     }
 }
 
+/// The numbers of what is found in the message type by the name, in the order of `MEMBERS`.
 fn found_in_message(message: &MessageDescriptor, name: &str) -> Result<[u32; 4], AllocError> {
     let field = number_of_field(message.get_field_by_name(name)?);
     let json = number_of_field(message.get_field_by_json_name(name)?);
@@ -73,8 +78,14 @@ fn found_in_message(message: &MessageDescriptor, name: &str) -> Result<[u32; 4],
     Ok([field, json, extension, bracketed])
 }
 
-fn found_in(pool: &DescriptorPool, message: &str, name: &str) -> Result<[u32; 4], Fail> {
-    Ok(found_in_message(&message_of(pool, message)?, name)?)
+/// The same of the message type of the name.
+fn found_in(
+    alloc: Global,
+    pool: &DescriptorPool,
+    message: &str,
+    name: &str,
+) -> Result<[u32; 4], Fail> {
+    Ok(found_in_message(message_of(alloc, pool, message)?, name)?)
 }
 
 /// A number, and whether a field and an extension of `w.x.A` are found by it.
@@ -88,6 +99,7 @@ static NUMBERS: [(u32, [bool; 2]); 7] = [
     (u32::MAX, [false; 2]),
 ];
 
+/// Whether a field and an extension are found by the number.
 fn found_by_number(message: &MessageDescriptor, number: u32) -> Result<[bool; 2], AllocError> {
     let field = message.get_field(number)?.is_some();
     let extension = message.get_extension(number)?.is_some();
@@ -102,6 +114,7 @@ static VALUES: [(&str, i32, [bool; 2]); 4] = [
     ("off", -1, [false; 2]),
 ];
 
+/// Whether a value is found by the name, and one by the number.
 fn found_in_enum(e: &EnumDescriptor, name: &str, number: i32) -> Result<[bool; 2], AllocError> {
     let named = e.get_value_by_name(name)?.is_some();
     let numbered = e.get_value(number)?.is_some();
@@ -110,13 +123,14 @@ fn found_in_enum(e: &EnumDescriptor, name: &str, number: i32) -> Result<[bool; 2
 
 #[test]
 fn definitions_are_found_by_their_names_alone(rt: HostRuntime) -> Result<(), Fail> {
-    let pool = DescriptorPool::decode(rt.alloc(), WHOLE)?;
+    let pool = pool_of(rt.alloc(), WHOLE)?;
     for (name, found) in NAMES {
-        assert!(rt; found_in_pool(&pool, name)? == found, "{name}");
+        assert!(rt; found_in_pool(pool, name)? == found, "{name}");
     }
     Ok(())
 }
 
+/// Stops the test where a row of `NUMBERS` is not so of the message type.
 fn numbers_are_found(rt: &impl Abort, message: &MessageDescriptor) -> Result<(), AllocError> {
     for (number, found) in NUMBERS {
         assert!(rt; found_by_number(message, number)? == found, "{number}");
@@ -124,6 +138,7 @@ fn numbers_are_found(rt: &impl Abort, message: &MessageDescriptor) -> Result<(),
     Ok(())
 }
 
+/// Stops the test where a row of `VALUES` is not so of the enum.
 fn values_are_found(rt: &impl Abort, e: &EnumDescriptor) -> Result<(), AllocError> {
     for (name, number, found) in VALUES {
         assert!(rt; found_in_enum(e, name, number)? == found, "{name}");
@@ -133,18 +148,22 @@ fn values_are_found(rt: &impl Abort, e: &EnumDescriptor) -> Result<(), AllocErro
 
 #[test]
 fn members_are_found_by_their_names_and_numbers(rt: HostRuntime) -> Result<(), Fail> {
-    let pool = DescriptorPool::decode(rt.alloc(), WHOLE)?;
+    let pool = pool_of(rt.alloc(), WHOLE)?;
     for (message, name, found) in MEMBERS {
-        assert!(rt; found_in(&pool, message, name)? == found, "{name}");
+        assert!(rt;
+            found_in(rt.alloc(), pool, message, name)? == found,
+            "{name}"
+        );
     }
-    numbers_are_found(&rt, &message_of(&pool, "w.x.A")?)?;
-    values_are_found(&rt, &enum_of(&pool, "w.x.A.B.C.State")?)?;
+    numbers_are_found(&rt, message_of(rt.alloc(), pool, "w.x.A")?)?;
+    values_are_found(&rt, enum_of(rt.alloc(), pool, "w.x.A.B.C.State")?)?;
     Ok(())
 }
 
 /// The kind of the field of `w.x.A` of the number.
-fn kind_of(pool: &DescriptorPool, number: u32) -> Result<Kind, Fail> {
-    Ok(field_of(pool, "w.x.A", number)?.kind()?)
+fn kind_of(alloc: Global, pool: &DescriptorPool, number: u32) -> Result<&'static Kind, Fail> {
+    let field = field_of(alloc, pool, "w.x.A", number)?;
+    Ok(leaked(alloc, field.kind()?)?)
 }
 
 /// Whether a copy of the kind is equal.
@@ -168,33 +187,21 @@ fn leads_to_enum(kind: &Kind, full_name: &str) -> bool {
     }
 }
 
-fn field_leads_to_message(pool: &DescriptorPool) -> Result<bool, Fail> {
-    let kind = kind_of(pool, 3)?;
-    Ok(is_its_copy(&kind)? && leads_to_message(&kind, "w.x.A.BsEntry"))
-}
-
-fn field_leads_to_enum(pool: &DescriptorPool) -> Result<bool, Fail> {
-    let kind = kind_of(pool, 2)?;
-    Ok(is_its_copy(&kind)? && leads_to_enum(&kind, "base.Level"))
-}
-
-fn field_leads_nowhere(pool: &DescriptorPool) -> Result<bool, Fail> {
-    let kind = kind_of(pool, 7)?;
-    Ok(is_its_copy(&kind)? && kind.as_message().is_none() && kind.as_enum().is_none())
-}
-
-fn kinds_differ(pool: &DescriptorPool) -> Result<bool, Fail> {
-    let kind = kind_of(pool, 7)?;
-    Ok(kind != kind_of(pool, 2)?)
+/// Whether the kind leads to neither.
+fn leads_nowhere(kind: &Kind) -> bool {
+    kind.as_message().is_none() && kind.as_enum().is_none()
 }
 
 /// A kind leads to its message type, or to its enum, and a scalar kind to neither; a copy to the same.
 #[test]
 fn kinds_lead_to_their_types(rt: HostRuntime) -> Result<(), Fail> {
-    let pool = DescriptorPool::decode(rt.alloc(), WHOLE)?;
-    assert!(rt; field_leads_to_message(&pool)?);
-    assert!(rt; field_leads_to_enum(&pool)?);
-    assert!(rt; field_leads_nowhere(&pool)?);
-    assert!(rt; kinds_differ(&pool)?);
+    let pool = pool_of(rt.alloc(), WHOLE)?;
+    let entry = kind_of(rt.alloc(), pool, 3)?;
+    assert!(rt; is_its_copy(entry)? && leads_to_message(entry, "w.x.A.BsEntry"));
+    let level = kind_of(rt.alloc(), pool, 2)?;
+    assert!(rt; is_its_copy(level)? && leads_to_enum(level, "base.Level"));
+    let text = kind_of(rt.alloc(), pool, 7)?;
+    assert!(rt; is_its_copy(text)? && leads_nowhere(text));
+    assert!(rt; *text != *level);
     Ok(())
 }

@@ -1,11 +1,11 @@
 //! What is found by names and numbers, and what is not.
 
-use crate::named::{enum_of, message_of};
+use crate::named::{enum_of, message_of, pool_of};
 use prost_reflect::{
     DescriptorPool, EnumDescriptor, EnumValueDescriptor, ExtensionDescriptor, FieldDescriptor,
     FileDescriptor, MessageDescriptor, ServiceDescriptor,
 };
-use std::alloc::{AllocError, Global};
+use std::alloc::AllocError;
 use std::test::Fail;
 
 /// `s.proto`, of proto2: in `p`
@@ -28,16 +28,7 @@ static SET_S: &[u8] =
     \"\x09\x0a\x01N*\x04\x08\x01\x10\x092\x17\x0a\x01S\x12\x12\x0a\x02Go\x12\x04.p.M\x1a\x04.p.M(\
     \x01:\x0f\x0a\x01y\x12\x04.p.N\x18\x07 \x01(\x05:\x0e\x0a\x01z\x12\x03p.M\x18e \x01(\x05";
 
-fn message(alloc: Global, name: &str) -> Result<MessageDescriptor, Fail> {
-    let pool = DescriptorPool::decode(alloc, SET_S)?;
-    message_of(&pool, name)
-}
-
-fn enum_of_m(alloc: Global) -> Result<EnumDescriptor, Fail> {
-    let pool = DescriptorPool::decode(alloc, SET_S)?;
-    enum_of(&pool, "p.M.E")
-}
-
+/// Whether a file is found, and has the name.
 fn is_file(found: Option<FileDescriptor>, name: &str) -> bool {
     match found {
         Some(file) => file.name() == name,
@@ -45,6 +36,7 @@ fn is_file(found: Option<FileDescriptor>, name: &str) -> bool {
     }
 }
 
+/// Whether a service is found, and has the full name.
 fn is_service(found: Option<ServiceDescriptor>, full_name: &str) -> bool {
     match found {
         Some(service) => service.full_name() == full_name,
@@ -52,6 +44,7 @@ fn is_service(found: Option<ServiceDescriptor>, full_name: &str) -> bool {
     }
 }
 
+/// Whether a message type is found, and has the full name.
 fn is_message(found: Option<MessageDescriptor>, full_name: &str) -> bool {
     match found {
         Some(message) => message.full_name() == full_name,
@@ -59,6 +52,7 @@ fn is_message(found: Option<MessageDescriptor>, full_name: &str) -> bool {
     }
 }
 
+/// Whether an enum is found, and has the full name.
 fn is_enum(found: Option<EnumDescriptor>, full_name: &str) -> bool {
     match found {
         Some(found) => found.full_name() == full_name,
@@ -66,6 +60,7 @@ fn is_enum(found: Option<EnumDescriptor>, full_name: &str) -> bool {
     }
 }
 
+/// Whether a field is found, and has the number.
 fn is_field(found: Option<FieldDescriptor>, number: u32) -> bool {
     match found {
         Some(field) => field.number() == number,
@@ -73,6 +68,7 @@ fn is_field(found: Option<FieldDescriptor>, number: u32) -> bool {
     }
 }
 
+/// Whether an extension is found, and has the full name.
 fn is_extension(found: Option<ExtensionDescriptor>, full_name: &str) -> bool {
     match found {
         Some(extension) => extension.full_name() == full_name,
@@ -80,6 +76,7 @@ fn is_extension(found: Option<ExtensionDescriptor>, full_name: &str) -> bool {
     }
 }
 
+/// Whether a value is found, and has the name.
 fn is_value(found: Option<EnumValueDescriptor>, name: &str) -> bool {
     match found {
         Some(value) => value.name() == name,
@@ -87,24 +84,28 @@ fn is_value(found: Option<EnumValueDescriptor>, name: &str) -> bool {
     }
 }
 
+/// Whether a file is found by its name, and none by that of a package.
 fn finds_files(pool: &DescriptorPool) -> Result<[bool; 2], AllocError> {
     let file = is_file(pool.get_file_by_name("s.proto")?, "s.proto");
     let no_file = pool.get_file_by_name("p")?.is_none();
     Ok([file, no_file])
 }
 
+/// Whether a service is found by its name, and none by that of a message type.
 fn finds_services(pool: &DescriptorPool) -> Result<[bool; 2], AllocError> {
     let service = is_service(pool.get_service_by_name("p.S")?, "p.S");
     let no_service = pool.get_service_by_name("p.M")?.is_none();
     Ok([service, no_service])
 }
 
+/// Whether a message type is found by its name, and none by that of an enum.
 fn finds_messages(pool: &DescriptorPool) -> Result<[bool; 2], AllocError> {
     let message = is_message(pool.get_message_by_name("p.N")?, "p.N");
     let no_message = pool.get_message_by_name("p.M.E")?.is_none();
     Ok([message, no_message])
 }
 
+/// Whether an enum is found by its name, and none without the name of its parent.
 fn finds_enums(pool: &DescriptorPool) -> Result<[bool; 2], AllocError> {
     let found = is_enum(pool.get_enum_by_name("p.M.E")?, "p.M.E");
     let no_enum = pool.get_enum_by_name("p.E")?.is_none();
@@ -122,12 +123,12 @@ fn finds_extensions(pool: &DescriptorPool) -> Result<[bool; 4], AllocError> {
 
 #[test]
 fn definitions_are_found_in_a_pool(rt: HostRuntime) -> Result<(), Fail> {
-    let pool = DescriptorPool::decode(rt.alloc(), SET_S)?;
-    assert!(rt; finds_files(&pool)? == [true; 2]);
-    assert!(rt; finds_services(&pool)? == [true; 2]);
-    assert!(rt; finds_messages(&pool)? == [true; 2]);
-    assert!(rt; finds_enums(&pool)? == [true; 2]);
-    assert!(rt; finds_extensions(&pool)? == [true; 4]);
+    let pool = pool_of(rt.alloc(), SET_S)?;
+    assert!(rt; finds_files(pool)? == [true; 2]);
+    assert!(rt; finds_services(pool)? == [true; 2]);
+    assert!(rt; finds_messages(pool)? == [true; 2]);
+    assert!(rt; finds_enums(pool)? == [true; 2]);
+    assert!(rt; finds_extensions(pool)? == [true; 4]);
     Ok(())
 }
 
@@ -158,10 +159,10 @@ fn finds_no_others(message: &MessageDescriptor) -> Result<[bool; 3], AllocError>
 
 #[test]
 fn fields_and_extensions_of_a_message_type_are_found(rt: HostRuntime) -> Result<(), Fail> {
-    let message = message(rt.alloc(), "p.M")?;
-    assert!(rt; finds_fields(&message)? == [true; 4]);
-    assert!(rt; finds_own_extensions(&message)? == [true; 3]);
-    assert!(rt; finds_no_others(&message)? == [true; 3]);
+    let message = message_of(rt.alloc(), pool_of(rt.alloc(), SET_S)?, "p.M")?;
+    assert!(rt; finds_fields(message)? == [true; 4]);
+    assert!(rt; finds_own_extensions(message)? == [true; 3]);
+    assert!(rt; finds_no_others(message)? == [true; 3]);
     Ok(())
 }
 
@@ -177,7 +178,7 @@ fn finds_values(found: &EnumDescriptor) -> Result<[bool; 5], AllocError> {
 
 #[test]
 fn values_are_found(rt: HostRuntime) -> Result<(), Fail> {
-    let found = enum_of_m(rt.alloc())?;
-    assert!(rt; finds_values(&found)? == [true; 5]);
+    let found = enum_of(rt.alloc(), pool_of(rt.alloc(), SET_S)?, "p.M.E")?;
+    assert!(rt; finds_values(found)? == [true; 5]);
     Ok(())
 }

@@ -6,6 +6,7 @@ use crate::schema::SCHEMA;
 use prost_reflect::{
     DecodeError, DescriptorPool, DynamicMessage, MessageDescriptor, OptionsError, Value,
 };
+use prost_reflect_samples::leaked;
 use std::alloc::{AllocError, Global};
 use std::test::Fail;
 
@@ -49,37 +50,42 @@ static ANSWERS: [(&str, &str); 10] = [
 ];
 
 /// The options of the definition.
-fn options_of(pool: &DescriptorPool, name: &str) -> Result<DynamicMessage, Fail> {
+fn options_of(alloc: Global, pool: &DescriptorPool, name: &str) -> Result<DynamicMessage, Fail> {
     match name {
-        "E" => Ok(enum_of(pool, "o.E")?.options()?),
-        "A" => Ok(enum_of(pool, "o.E")?.default_value()?.options()?),
-        "S" => Ok(service_of(pool, "o.S")?.options()?),
-        "R" => Ok(method_of(pool, "o.S")?.options()?),
-        "M" | "f" | "g" | "c" | "x" => options_in(&message_of(pool, "o.M")?, name),
-        file => Ok(file_of(pool, file)?.options()?),
+        "E" => Ok(enum_of(alloc, pool, "o.E")?.options()?),
+        "A" => Ok(enum_of(alloc, pool, "o.E")?.default_value()?.options()?),
+        "S" => Ok(service_of(alloc, pool, "o.S")?.options()?),
+        "R" => Ok(method_of(alloc, pool, "o.S")?.options()?),
+        "M" | "f" | "g" | "c" | "x" => { options_in(alloc, message_of(alloc, pool, "o.M")?, name) }
+        file => Ok(file_of(alloc, pool, file)?.options()?),
     }
 }
 
 /// The options of the message type, or of what is declared for it.
-fn options_in(message: &MessageDescriptor, name: &str) -> Result<DynamicMessage, Fail> {
+fn options_in(
+    alloc: Global,
+    message: &MessageDescriptor,
+    name: &str,
+) -> Result<DynamicMessage, Fail> {
     match name {
         "M" => Ok(message.options()?),
         "f" => Ok(message.get_field(1)?.ok_or("no f")?.options()?),
         "g" => Ok(message.get_field(2)?.ok_or("no g")?.options()?),
-        "c" => Ok(oneof_of(message)?.options()?),
+        "c" => Ok(oneof_of(alloc, message)?.options()?),
         _ => Ok(message.get_extension(100)?.ok_or("no x")?.options()?),
     }
 }
 
 /// Whether the name of the options' type, and the names and the values of those that are set, are the text.
 fn are_shown_as(alloc: Global, options: &DynamicMessage, text: &str) -> Result<bool, Fail> {
-    let mut out = String::new(alloc);
+    let out = leaked(alloc, String::new(alloc))?;
     out.push_str(options.descriptor()?.name())?;
-    write_fields(&mut out, options)?;
-    write_extensions(&mut out, options)?;
+    write_fields(out, options)?;
+    write_extensions(out, options)?;
     Ok(out.as_str() == text)
 }
 
+/// Writes the options that are fields.
 fn write_fields(out: &mut String, options: &DynamicMessage) -> Result<(), Fail> {
     for item in options.fields() {
         let (field, value) = item?;
@@ -88,6 +94,7 @@ fn write_fields(out: &mut String, options: &DynamicMessage) -> Result<(), Fail> 
     Ok(())
 }
 
+/// Writes the options that are extensions.
 fn write_extensions(out: &mut String, options: &DynamicMessage) -> Result<(), Fail> {
     for item in options.extensions() {
         let (extension, value) = item?;
@@ -96,6 +103,7 @@ fn write_extensions(out: &mut String, options: &DynamicMessage) -> Result<(), Fa
     Ok(())
 }
 
+/// Writes the name and the value.
 fn write_option(out: &mut String, name: &str, value: &Value) -> Result<(), AllocError> {
     write!(out, " {name}=")?;
     match value {
@@ -108,14 +116,15 @@ fn write_option(out: &mut String, name: &str, value: &Value) -> Result<(), Alloc
 
 /// Whether the options of the definition are shown as the text.
 fn has_options(alloc: Global, pool: &DescriptorPool, name: &str, text: &str) -> Result<bool, Fail> {
-    are_shown_as(alloc, &options_of(pool, name)?, text)
+    let options = leaked(alloc, options_of(alloc, pool, name)?)?;
+    are_shown_as(alloc, options, text)
 }
 
 #[test]
 fn options_are_those_of_each_definition(rt: HostRuntime) -> Result<(), Fail> {
     let pool = with_added(rt.alloc(), SCHEMA, O_PROTO)?;
     for (name, text) in ANSWERS {
-        assert!(rt; has_options(rt.alloc(), &pool, name, text)?, "{name}");
+        assert!(rt; has_options(rt.alloc(), pool, name, text)?, "{name}");
     }
     Ok(())
 }
@@ -145,7 +154,7 @@ static TYPES: [(&str, &str); 10] = [
 fn definitions_without_options_have_empty_ones(rt: HostRuntime) -> Result<(), Fail> {
     let pool = with_added(rt.alloc(), SCHEMA, BARE)?;
     for (name, text) in TYPES {
-        assert!(rt; has_options(rt.alloc(), &pool, name, text)?, "{name}");
+        assert!(rt; has_options(rt.alloc(), pool, name, text)?, "{name}");
     }
     Ok(())
 }
@@ -171,32 +180,28 @@ static ROWS: [(&[u8], Option<OptionsError>); 3] = [
     ),
 ];
 
-/// The message type `p.M` beside the file.
-fn message_beside(alloc: Global, file: &[u8]) -> Result<MessageDescriptor, Fail> {
-    let pool = with_added(alloc, USER, file)?;
-    message_of(&pool, "p.M")
-}
-
-/// Whether the options are refused so, or are those of `p.M` where they are not refused.
+/// Whether the options of the message type are refused so, or are those of `p.M` where they are not
+/// refused.
 fn is_answer(
     alloc: Global,
-    options: Result<DynamicMessage, OptionsError>,
+    message: &MessageDescriptor,
     refusal: Option<OptionsError>,
 ) -> Result<bool, Fail> {
-    match options {
+    match leaked(alloc, message.options())? {
         Ok(options) => {
-            let are_shown = are_shown_as(alloc, &options, "MessageOptions deprecated=true")?;
+            let are_shown = are_shown_as(alloc, options, "MessageOptions deprecated=true")?;
             Ok(are_shown && refusal.is_none())
         }
-        Err(error) => Ok(refusal == Some(error)),
+        Err(error) => Ok(refusal == Some(*error)),
     }
 }
 
 #[test]
 fn options_are_read_by_the_pool_alone(rt: HostRuntime) -> Result<(), Fail> {
     for (file, refusal) in ROWS {
-        let message = message_beside(rt.alloc(), file)?;
-        assert!(rt; is_answer(rt.alloc(), message.options(), refusal)?);
+        let pool = with_added(rt.alloc(), USER, file)?;
+        let message = message_of(rt.alloc(), pool, "p.M")?;
+        assert!(rt; is_answer(rt.alloc(), message, refusal)?);
     }
     Ok(())
 }

@@ -1,7 +1,8 @@
 //! Pools that are made of descriptor sets, and what is added to them.
 
-use crate::named::message_of;
+use crate::named::{message_of, pool_of};
 use prost_reflect::DescriptorPool;
+use prost_reflect_samples::leaked;
 use prost_reflect_tables::PoolError;
 use prost_reflect_types::{FileDescriptorProto, FileDescriptorSet, Proto};
 use prost_reflect_wire::{DecodeError, EncodeError};
@@ -39,8 +40,12 @@ pub(crate) fn is_written_as(
 }
 
 /// The bytes of both, one behind the other.
-pub(crate) fn joined(alloc: Global, front: &[u8], rest: &[u8]) -> Result<Vec<u8>, AllocError> {
-    let mut bytes = Vec::from_slice(alloc, front)?;
+pub(crate) fn joined(
+    alloc: Global,
+    front: &[u8],
+    rest: &[u8],
+) -> Result<&'static Vec<u8>, AllocError> {
+    let bytes = leaked(alloc, Vec::from_slice(alloc, front)?)?;
     bytes.extend_from_slice(rest)?;
     Ok(bytes)
 }
@@ -58,8 +63,8 @@ pub(crate) fn with_added(
     alloc: Global,
     set: &[u8],
     added: &[u8],
-) -> Result<DescriptorPool, PoolError> {
-    let mut pool = DescriptorPool::decode(alloc, set)?;
+) -> Result<&'static DescriptorPool, Fail> {
+    let pool = leaked(alloc, DescriptorPool::decode(alloc, set)?)?;
     pool.decode_file_descriptor_set(added)?;
     Ok(pool)
 }
@@ -67,8 +72,8 @@ pub(crate) fn with_added(
 #[test]
 fn a_set_is_encoded_as_it_was_read(rt: HostRuntime) -> Result<(), Fail> {
     let pool = with_added(rt.alloc(), SET_M, SET_M)?;
-    assert!(rt; is_written_as(rt.alloc(), &pool, SET_M)?);
-    assert!(rt; pool == DescriptorPool::decode(rt.alloc(), SET_M)?);
+    assert!(rt; is_written_as(rt.alloc(), pool, SET_M)?);
+    assert!(rt; *pool == *pool_of(rt.alloc(), SET_M)?);
     Ok(())
 }
 
@@ -76,20 +81,20 @@ fn a_set_is_encoded_as_it_was_read(rt: HostRuntime) -> Result<(), Fail> {
 fn a_set_makes_a_pool(rt: HostRuntime) -> Result<(), Fail> {
     let set = FileDescriptorSet::decode(rt.alloc(), A_AND_B)?;
     let pool = DescriptorPool::from_file_descriptor_set(rt.alloc(), set)?;
-    assert!(rt; is_written_as(rt.alloc(), &pool, A_AND_B)?);
+    assert!(rt; is_written_as(rt.alloc(), leaked(rt.alloc(), pool)?, A_AND_B)?);
     Ok(())
 }
 
 /// A pool to which a file is added.
-fn of_file(alloc: Global, bytes: &[u8]) -> Result<DescriptorPool, Fail> {
-    let mut pool = DescriptorPool::new(alloc)?;
+fn of_file(alloc: Global, bytes: &[u8]) -> Result<&'static DescriptorPool, Fail> {
+    let pool = leaked(alloc, DescriptorPool::new(alloc)?)?;
     pool.add_file_descriptor_proto(FileDescriptorProto::decode(alloc, bytes)?)?;
     Ok(pool)
 }
 
 /// A pool to which a file is read and added.
-fn of_read_file(alloc: Global, bytes: &[u8]) -> Result<DescriptorPool, PoolError> {
-    let mut pool = DescriptorPool::new(alloc)?;
+fn of_read_file(alloc: Global, bytes: &[u8]) -> Result<&'static DescriptorPool, Fail> {
+    let pool = leaked(alloc, DescriptorPool::new(alloc)?)?;
     pool.decode_file_descriptor_proto(bytes)?;
     Ok(pool)
 }
@@ -97,14 +102,14 @@ fn of_read_file(alloc: Global, bytes: &[u8]) -> Result<DescriptorPool, PoolError
 /// The file of the set stands behind a key and a length of a byte each.
 #[test]
 fn a_file_is_added(rt: HostRuntime) -> Result<(), Fail> {
-    assert!(rt; is_written_as(rt.alloc(), &of_file(rt.alloc(), &SET_M[2..])?, SET_M)?);
-    assert!(rt; is_written_as(rt.alloc(), &of_read_file(rt.alloc(), &SET_M[2..])?, SET_M)?);
+    assert!(rt; is_written_as(rt.alloc(), of_file(rt.alloc(), &SET_M[2..])?, SET_M)?);
+    assert!(rt; is_written_as(rt.alloc(), of_read_file(rt.alloc(), &SET_M[2..])?, SET_M)?);
     Ok(())
 }
 
 #[test]
 fn files_are_lent(rt: HostRuntime) -> Result<(), Fail> {
-    let pool = DescriptorPool::decode(rt.alloc(), SET_M)?;
+    let pool = pool_of(rt.alloc(), SET_M)?;
     let files = pool.file_descriptor_protos();
     assert!(rt; files.len() == 1);
     for file in files {
@@ -122,8 +127,8 @@ fn has_a_among_two_files(pool: &DescriptorPool) -> Result<bool, AllocError> {
 #[test]
 fn files_may_come_in_any_order(rt: HostRuntime) -> Result<(), Fail> {
     for bytes in [A_AND_B, B_AND_A] {
-        let pool = DescriptorPool::decode(rt.alloc(), bytes)?;
-        assert!(rt; has_a_among_two_files(&pool)?);
+        let pool = pool_of(rt.alloc(), bytes)?;
+        assert!(rt; has_a_among_two_files(pool)?);
     }
     Ok(())
 }
@@ -136,16 +141,16 @@ fn adds_nothing(pool: &mut DescriptorPool, set: &[u8], fault: PoolError) -> bool
 
 #[test]
 fn a_refused_batch_adds_nothing(rt: HostRuntime) -> Result<(), Fail> {
-    let mut pool = DescriptorPool::new(rt.alloc())?;
-    assert!(rt; adds_nothing(&mut pool, SOUND_AND_EDITIONS, PoolError::UnknownSyntax));
+    let pool = leaked(rt.alloc(), DescriptorPool::new(rt.alloc())?)?;
+    assert!(rt; adds_nothing(pool, SOUND_AND_EDITIONS, PoolError::UnknownSyntax));
     Ok(())
 }
 
 /// How many files the pool has, how many a copy of it from before an addition, and how many the pool of a descriptor from
 /// before it.
-fn counts_after_addition(pool: &mut DescriptorPool) -> Result<[usize; 3], Fail> {
-    let descriptor = message_of(pool, "package.MyMessage")?;
-    let copy = pool.clone()?;
+fn counts_after_addition(alloc: Global, pool: &mut DescriptorPool) -> Result<[usize; 3], Fail> {
+    let descriptor = message_of(alloc, pool, "package.MyMessage")?;
+    let copy = leaked(alloc, pool.clone()?)?;
     pool.decode_file_descriptor_set(A_AND_B)?;
     Ok([
         pool.file_descriptor_protos().len(),
@@ -157,8 +162,8 @@ fn counts_after_addition(pool: &mut DescriptorPool) -> Result<[usize; 3], Fail> 
 /// A descriptor and a copy keep the pool as it was before an addition.
 #[test]
 fn an_addition_changes_no_descriptor(rt: HostRuntime) -> Result<(), Fail> {
-    let mut pool = DescriptorPool::decode(rt.alloc(), SET_M)?;
-    assert!(rt; counts_after_addition(&mut pool)? == [3, 1, 1]);
+    let pool = leaked(rt.alloc(), DescriptorPool::decode(rt.alloc(), SET_M)?)?;
+    assert!(rt; counts_after_addition(rt.alloc(), pool)? == [3, 1, 1]);
     Ok(())
 }
 
@@ -169,10 +174,9 @@ static M_OF_EDITIONS: &[u8] = b"\x0a\x13\x0a\x07m.protob\x08editions";
 #[test]
 fn the_first_file_of_a_name_counts(rt: HostRuntime) -> Result<(), Fail> {
     let pool = with_added(rt.alloc(), SET_M, M_OF_EDITIONS)?;
-    assert!(rt; is_written_as(rt.alloc(), &pool, SET_M)?);
-    let both = joined(rt.alloc(), SET_M, M_OF_EDITIONS)?;
-    let pool = DescriptorPool::decode(rt.alloc(), &both)?;
-    assert!(rt; is_written_as(rt.alloc(), &pool, SET_M)?);
+    assert!(rt; is_written_as(rt.alloc(), pool, SET_M)?);
+    let pool = pool_of(rt.alloc(), joined(rt.alloc(), SET_M, M_OF_EDITIONS)?)?;
+    assert!(rt; is_written_as(rt.alloc(), pool, SET_M)?);
     Ok(())
 }
 
@@ -184,14 +188,14 @@ static NAMELESS: &[u8] = b"\x0a\x05\x22\x03\x0a\x01Z";
 fn a_file_without_a_name_is_not_skipped(rt: HostRuntime) -> Result<(), Fail> {
     for front in [b"".as_slice(), SET_M, NAMELESS] {
         let bytes = joined(rt.alloc(), front, NAMELESS)?;
-        assert!(rt; refusal(rt.alloc(), &bytes) == Some(PoolError::MissingName));
+        assert!(rt; refusal(rt.alloc(), bytes) == Some(PoolError::MissingName));
     }
     Ok(())
 }
 
 /// The set with one byte changed.
-fn changed(alloc: Global, place: usize, byte: u8) -> Result<Vec<u8>, AllocError> {
-    let mut bytes = Vec::from_slice(alloc, SET_M)?;
+fn changed(alloc: Global, place: usize, byte: u8) -> Result<&'static Vec<u8>, AllocError> {
+    let bytes = leaked(alloc, Vec::from_slice(alloc, SET_M)?)?;
     if let Some(changed) = bytes.get_mut(place) {
         *changed = byte;
     }
@@ -208,13 +212,13 @@ fn a_changed_byte_is_refused(rt: HostRuntime) -> Result<(), Fail> {
         (96, b'f', PoolError::UnknownType),
         (116, b'4', PoolError::UnknownSyntax),
     ];
-    let mut pool = DescriptorPool::new(rt.alloc())?;
+    let pool = leaked(rt.alloc(), DescriptorPool::new(rt.alloc())?)?;
     for (place, byte, fault) in rows {
         let set = changed(rt.alloc(), place, byte)?;
-        assert!(rt; adds_nothing(&mut pool, &set, fault), "{place}");
+        assert!(rt; adds_nothing(pool, set, fault), "{place}");
     }
     let cut = PoolError::Decode(DecodeError::Truncated);
-    assert!(rt; adds_nothing(&mut pool, &SET_M[..116], cut));
+    assert!(rt; adds_nothing(pool, &SET_M[..116], cut));
     Ok(())
 }
 
@@ -227,11 +231,11 @@ fn is_answered(pool: &DescriptorPool, set: &[u8]) -> Result<bool, AllocError> {
 /// Whatever bit of a set is turned, there is an answer, and a refusal changes nothing.
 #[test]
 fn a_turned_bit_is_answered(rt: HostRuntime) -> Result<(), Fail> {
-    let pool = DescriptorPool::decode(rt.alloc(), A_AND_B)?;
+    let pool = pool_of(rt.alloc(), A_AND_B)?;
     for (place, byte) in SET_M.iter().enumerate() {
         for bit in 0..8_u32 {
             let set = changed(rt.alloc(), place, *byte ^ (1 << (bit % 8)))?;
-            assert!(rt; is_answered(&pool, &set)?, "{place} {bit}");
+            assert!(rt; is_answered(pool, set)?, "{place} {bit}");
         }
     }
     Ok(())

@@ -1,6 +1,6 @@
 //! Which message types are reductions of which, and why others are none.
 
-use crate::named::message_of;
+use crate::named::{message_of, pool_of};
 use prost_reflect::DescriptorPool;
 use std::alloc::Global;
 use std::test::Fail;
@@ -80,9 +80,15 @@ static ROWS: [(&str, &str, &str); 24] = [
     ("s.Extended", "s.Extended", ""),
 ];
 
-fn is_reduction(pool: &DescriptorPool, older: &str, newer: &str) -> Result<bool, Fail> {
-    let older = message_of(pool, older)?;
-    Ok(older.is_reduction_of(&message_of(pool, newer)?)?)
+/// Whether the older type is a reduction of the newer one.
+fn is_reduction(
+    alloc: Global,
+    pool: &DescriptorPool,
+    older: &str,
+    newer: &str,
+) -> Result<bool, Fail> {
+    let older = message_of(alloc, pool, older)?;
+    Ok(older.is_reduction_of(message_of(alloc, pool, newer)?)?)
 }
 
 /// Whether the fault of the older type beside the newer one has the text, or there is none where it is empty.
@@ -93,8 +99,9 @@ fn has_fault(
     newer: &str,
     text: &str,
 ) -> Result<bool, Fail> {
-    let older = message_of(pool, older)?;
-    match older.reduction_fault(&message_of(pool, newer)?)? {
+    let older = message_of(alloc, pool, older)?;
+    let newer = message_of(alloc, pool, newer)?;
+    match older.reduction_fault(newer)? {
         Some(fault) => Ok(format!(in alloc; "{fault}")?.as_str() == text),
         None => Ok(text.is_empty()),
     }
@@ -102,10 +109,10 @@ fn has_fault(
 
 #[test]
 fn a_type_with_fields_left_out_is_a_reduction(rt: HostRuntime) -> Result<(), Fail> {
-    let pool = DescriptorPool::decode(rt.alloc(), TYPES)?;
+    let pool = pool_of(rt.alloc(), TYPES)?;
     for (older, newer, fault) in &ROWS {
         assert!(rt;
-            is_reduction(&pool, older, newer)? == fault.is_empty(),
+            is_reduction(rt.alloc(), pool, older, newer)? == fault.is_empty(),
             "{older} {newer}"
         );
     }
@@ -114,10 +121,10 @@ fn a_type_with_fields_left_out_is_a_reduction(rt: HostRuntime) -> Result<(), Fai
 
 #[test]
 fn a_fault_names_what_differs(rt: HostRuntime) -> Result<(), Fail> {
-    let pool = DescriptorPool::decode(rt.alloc(), TYPES)?;
+    let pool = pool_of(rt.alloc(), TYPES)?;
     for (older, newer, fault) in &ROWS {
         assert!(rt;
-            has_fault(rt.alloc(), &pool, older, newer, fault)?,
+            has_fault(rt.alloc(), pool, older, newer, fault)?,
             "{older} {newer}"
         );
     }

@@ -1,8 +1,8 @@
 //! The schema of descriptor sets, and what its descriptors say.
 
 use crate::describe::describe;
-use crate::named::message_of;
-use prost_reflect::{DescriptorPool, MessageDescriptor, RelayError, relay};
+use crate::named::{message_of, pool_of};
+use prost_reflect::{MessageDescriptor, RelayError, relay};
 use std::alloc::Global;
 use std::test::Fail;
 
@@ -152,27 +152,17 @@ static LINES: [&str; 5] = [
 /// How many bytes all the lines are.
 const LENGTH: usize = 45001;
 
-fn told(alloc: Global) -> Result<String, Fail> {
-    let pool = DescriptorPool::decode(alloc, SCHEMA)?;
-    Ok(describe(alloc, &pool)?)
-}
-
 #[test]
 fn the_schema_of_descriptor_sets_is_told(rt: HostRuntime) -> Result<(), Fail> {
-    let text = told(rt.alloc())?;
+    let text = describe(rt.alloc(), pool_of(rt.alloc(), SCHEMA)?)?;
     assert_eq!(rt; text.len(), LENGTH);
     for line in LINES {
-        assert!(rt; text.as_str().contains(line), "{line}");
+        assert!(rt; text.contains(line), "{line}");
     }
     Ok(())
 }
 
-/// The type of descriptor sets.
-fn set_type(alloc: Global) -> Result<MessageDescriptor, Fail> {
-    let pool = DescriptorPool::decode(alloc, SCHEMA)?;
-    message_of(&pool, "google.protobuf.FileDescriptorSet")
-}
-
+/// Whether the schema is relayed as it is, by the type of descriptor sets.
 fn relays_schema(alloc: Global, set: &MessageDescriptor) -> Result<bool, RelayError> {
     Ok(relay(alloc, set, SCHEMA)?.as_slice() == SCHEMA)
 }
@@ -180,7 +170,8 @@ fn relays_schema(alloc: Global, set: &MessageDescriptor) -> Result<bool, RelayEr
 /// It is itself a message of the type that it defines for descriptor sets.
 #[test]
 fn the_schema_of_descriptor_sets_relays_itself(rt: HostRuntime) -> Result<(), Fail> {
-    let set = set_type(rt.alloc())?;
-    assert!(rt; relays_schema(rt.alloc(), &set)?);
+    let pool = pool_of(rt.alloc(), SCHEMA)?;
+    let set = message_of(rt.alloc(), pool, "google.protobuf.FileDescriptorSet")?;
+    assert!(rt; relays_schema(rt.alloc(), set)?);
     Ok(())
 }

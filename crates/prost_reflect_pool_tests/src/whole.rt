@@ -1,9 +1,10 @@
 //! All that the descriptors of a set say that has each sort of definition.
 
 use crate::describe::describe;
-use crate::named::message_of;
+use crate::named::{message_of, pool_of};
 use crate::schema::SCHEMA;
-use prost_reflect::{DescriptorPool, MessageDescriptor};
+use prost_reflect::DescriptorPool;
+use prost_reflect_samples::leaked;
 use std::alloc::{AllocError, Global};
 use std::test::Fail;
 
@@ -127,23 +128,17 @@ static TEXT: &str = "\
 
 /// Whether the pool's descriptors say what the text does.
 fn is_told(alloc: Global, pool: &DescriptorPool) -> Result<bool, AllocError> {
-    Ok(describe(alloc, pool)?.as_str() == TEXT)
+    Ok(describe(alloc, pool)? == TEXT)
 }
 
 #[test]
 fn each_sort_of_definition_is_told(rt: HostRuntime) -> Result<(), Fail> {
-    let pool = DescriptorPool::decode(rt.alloc(), WHOLE)?;
-    assert!(rt; is_told(rt.alloc(), &pool)?);
+    let pool = pool_of(rt.alloc(), WHOLE)?;
+    assert!(rt; is_told(rt.alloc(), pool)?);
     Ok(())
 }
 
-/// The message type `w.x.A`, which is found before the schema of descriptor sets is added.
-fn found_before(pool: &mut DescriptorPool) -> Result<MessageDescriptor, Fail> {
-    let found = message_of(pool, "w.x.A")?;
-    pool.decode_file_descriptor_set(SCHEMA)?;
-    Ok(found)
-}
-
+/// Whether the pool has the file of the schema of descriptor sets.
 fn has_schema(pool: &DescriptorPool) -> Result<bool, AllocError> {
     Ok(
         pool.get_file_by_name("google/protobuf/descriptor.proto")?
@@ -154,10 +149,11 @@ fn has_schema(pool: &DescriptorPool) -> Result<bool, AllocError> {
 /// A descriptor that was made before an addition answers as before, and its pool tells what it told.
 #[test]
 fn an_addition_changes_no_answer(rt: HostRuntime) -> Result<(), Fail> {
-    let mut pool = DescriptorPool::decode(rt.alloc(), WHOLE)?;
-    let found = found_before(&mut pool)?;
+    let pool = leaked(rt.alloc(), DescriptorPool::decode(rt.alloc(), WHOLE)?)?;
+    let found = message_of(rt.alloc(), pool, "w.x.A")?;
+    pool.decode_file_descriptor_set(SCHEMA)?;
     assert!(rt; is_told(rt.alloc(), found.parent_pool())?);
     assert!(rt; !has_schema(found.parent_pool())?);
-    assert!(rt; has_schema(&pool)?);
+    assert!(rt; has_schema(pool)?);
     Ok(())
 }

@@ -1,14 +1,16 @@
 //! Which messages and values are equal.
 
-use crate::types::{decoded, equals_its_copy, insert, is_decoded, named_type, text_key};
+use crate::types::{
+    decoded, equals_its_copy, insert, is_decoded, message_of, message_type, named_type, text_key,
+};
 use prost_reflect::{DynamicMessage, Value, builtin_pool};
-use prost_reflect_samples::sets;
+use prost_reflect_samples::{leaked, sets};
 use std::alloc::Global;
 use std::collections::BTreeMap;
 use std::test::Fail;
 
 /// The message that the bytes mean to the type of a name in the newer set.
-fn sample(alloc: Global, name: &str, bytes: &[u8]) -> Result<DynamicMessage, Fail> {
+fn sample(alloc: Global, name: &str, bytes: &[u8]) -> Result<&'static mut DynamicMessage, Fail> {
     decoded(alloc, sets::newer(), name, bytes)
 }
 
@@ -16,17 +18,17 @@ fn sample(alloc: Global, name: &str, bytes: &[u8]) -> Result<DynamicMessage, Fai
 #[test]
 fn a_stored_default_counts(rt: HostRuntime) -> Result<(), Fail> {
     let fresh = sample(rt.alloc(), "package.MyMessage", &[])?;
-    let mut message = sample(rt.alloc(), "package.MyMessage", &[0x08, 0])?;
-    assert!(rt; message != fresh);
+    let message = sample(rt.alloc(), "package.MyMessage", &[0x08, 0])?;
+    assert!(rt; *message != *fresh);
     message.clear();
-    assert!(rt; message == fresh);
+    assert!(rt; *message == *fresh);
     Ok(())
 }
 
 /// A message of `MyMessage` with `foo`, in so many lists.
 fn nested(alloc: Global, levels: u32, foo: u8) -> Result<Value, Fail> {
-    let bytes = [0x08, foo];
-    let mut value = Value::Message(sample(alloc, "package.MyMessage", &bytes)?);
+    let descriptor = message_type(alloc, sets::newer(), "package.MyMessage")?;
+    let mut value = Value::Message(message_of(alloc, descriptor, &[0x08, foo])?);
     for _ in 0..levels {
         let mut items = Vec::new(alloc);
         items.push(value)?;
@@ -37,14 +39,14 @@ fn nested(alloc: Global, levels: u32, foo: u8) -> Result<Value, Fail> {
 
 /// Whether the value is `foo` in so many lists.
 fn is_nested(alloc: Global, value: &Value, levels: u32, foo: u8) -> Result<bool, Fail> {
-    Ok(*value == nested(alloc, levels, foo)?)
+    Ok(*value == *leaked(alloc, nested(alloc, levels, foo)?)?)
 }
 
 #[test]
 fn a_value_150_deep_is_copied_and_compared(rt: HostRuntime) -> Result<(), Fail> {
-    let value = nested(rt.alloc(), 150, 5)?;
-    assert!(rt; equals_its_copy(&value)?);
-    assert!(rt; !is_nested(rt.alloc(), &value, 150, 6)?);
+    let value = leaked(rt.alloc(), nested(rt.alloc(), 150, 5)?)?;
+    assert!(rt; equals_its_copy(value)?);
+    assert!(rt; !is_nested(rt.alloc(), value, 150, 6)?);
     Ok(())
 }
 
@@ -63,14 +65,14 @@ fn is_counts(
     first: (&str, i32),
     second: (&str, i32),
 ) -> Result<bool, Fail> {
-    Ok(*map == counts(alloc, first, second)?)
+    Ok(*map == *leaked(alloc, counts(alloc, first, second)?)?)
 }
 
 #[test]
 fn entries_are_equal_in_any_order_of_putting(rt: HostRuntime) -> Result<(), Fail> {
-    let map = counts(rt.alloc(), ("a", 1), ("b", 2))?;
-    assert!(rt; is_counts(rt.alloc(), &map, ("b", 2), ("a", 1))?);
-    assert!(rt; !is_counts(rt.alloc(), &map, ("a", 2), ("b", 1))?);
+    let map = leaked(rt.alloc(), counts(rt.alloc(), ("a", 1), ("b", 2))?)?;
+    assert!(rt; is_counts(rt.alloc(), map, ("b", 2), ("a", 1))?);
+    assert!(rt; !is_counts(rt.alloc(), map, ("a", 2), ("b", 1))?);
     Ok(())
 }
 
@@ -81,22 +83,24 @@ fn values_are_equal_by_bits(rt: HostRuntime) {
     assert!(rt; Value::F32(0) != Value::F32(0x8000_0000));
 }
 
-fn kept(alloc: Global, bytes: &[u8]) -> Result<DynamicMessage, Fail> {
-    let descriptor = named_type(&builtin_pool(alloc)?, "builtin.Kept")?;
-    Ok(DynamicMessage::decode(alloc, descriptor, bytes)?)
+/// The `Kept` of the bytes.
+fn kept(alloc: Global, bytes: &[u8]) -> Result<&'static DynamicMessage, Fail> {
+    let pool = leaked(alloc, builtin_pool(alloc)?)?;
+    let descriptor = named_type(alloc, pool, "builtin.Kept")?;
+    Ok(leaked(alloc, message_of(alloc, descriptor, bytes)?)?)
 }
 
 /// Whether the message is the `Kept` of the bytes.
 fn is_kept(alloc: Global, message: &DynamicMessage, bytes: &[u8]) -> Result<bool, Fail> {
-    Ok(*message == kept(alloc, bytes)?)
+    Ok(*message == *kept(alloc, bytes)?)
 }
 
 /// The numbers 10 and 11 are of no field.
 #[test]
 fn unknown_fields_count(rt: HostRuntime) -> Result<(), Fail> {
     let message = kept(rt.alloc(), &[0x50, 3, 0x50, 4, 0x58, 1])?;
-    assert!(rt; is_kept(rt.alloc(), &message, &[0x50, 3, 0x58, 1, 0x50, 4])?);
-    assert!(rt; !is_kept(rt.alloc(), &message, &[0x50, 4, 0x50, 3, 0x58, 1])?);
+    assert!(rt; is_kept(rt.alloc(), message, &[0x50, 3, 0x58, 1, 0x50, 4])?);
+    assert!(rt; !is_kept(rt.alloc(), message, &[0x50, 4, 0x50, 3, 0x58, 1])?);
     Ok(())
 }
 
@@ -104,15 +108,7 @@ fn unknown_fields_count(rt: HostRuntime) -> Result<(), Fail> {
 #[test]
 fn types_count(rt: HostRuntime) -> Result<(), Fail> {
     let message = sample(rt.alloc(), "package.MyMessage", &[])?;
-    assert!(rt;
-        is_decoded(
-            rt.alloc(),
-            &message,
-            sets::newer(),
-            "package.MyMessage",
-            &[]
-        )?
-    );
-    assert!(rt; !is_decoded(rt.alloc(), &message, sets::newer(), "P", &[])?);
+    assert!(rt; is_decoded(rt.alloc(), message, sets::newer(), "package.MyMessage", &[])?);
+    assert!(rt; !is_decoded(rt.alloc(), message, sets::newer(), "P", &[])?);
     Ok(())
 }

@@ -1,8 +1,8 @@
 //! Values and keys of each form, copied, put in order and handed back.
 
-use crate::types::{decoded, equals_its_copy, insert, message_type, text_key, text_of};
+use crate::types::{decoded, equals_its_copy, insert, message_of, message_type, text_key, text_of};
 use prost_reflect::{DynamicMessage, MapKey, SetFieldError, Value};
-use prost_reflect_samples::sets;
+use prost_reflect_samples::{leaked, sets};
 use std::alloc::{AllocError, Global};
 use std::cmp::Ordering;
 use std::collections::BTreeMap;
@@ -45,11 +45,17 @@ fn map_of_each_key(alloc: Global) -> Result<Value, AllocError> {
     Ok(Value::Map(pairs))
 }
 
+/// The message of `Every` that the bytes mean.
+fn every(alloc: Global, bytes: &[u8]) -> Result<Value, Fail> {
+    let descriptor = message_type(alloc, sets::every(), "e.Every")?;
+    Ok(Value::Message(message_of(alloc, descriptor, bytes)?))
+}
+
 /// A message of `Every` with fields of some forms, an extension and unknown fields.
 fn message(alloc: Global) -> Result<Value, Fail> {
     let bytes =
         b"\x28\x07\x4a\x01x\x5a\x02\x28\x01\xa9\x01\x01\x02\x03\x04\x05\x06\x07\x08\x98\x3f\x01\xa0\x06\x07\xc8\x06\x07";
-    Ok(Value::Message(decoded(alloc, sets::every(), "e.Every", bytes)?))
+    every(alloc, bytes)
 }
 
 /// How many forms there are.
@@ -71,10 +77,7 @@ fn form_at(alloc: Global, place: usize) -> Result<Value, Fail> {
         10 => Ok(long_text(alloc, 5000)?),
         11 => Ok(Value::Bytes(Vec::new(alloc))),
         12 => Ok(Value::Bytes(vec![in alloc; 0xff; 5000]?)),
-        13 => Ok(Value::Message(DynamicMessage::new(
-            alloc,
-            message_type(alloc, sets::every(), "e.Every")?,
-        ))),
+        13 => every(alloc, b""),
         14 => message(alloc),
         15 => Ok(Value::List(Vec::new(alloc))),
         16 => Ok(long_list(alloc, 300)?),
@@ -95,18 +98,18 @@ fn map_to_message(alloc: Global) -> Result<Value, Fail> {
 
 /// Whether both values of the places are equal exactly if the places are.
 fn are_apart(alloc: Global, value: &Value, other: usize, same: bool) -> Result<bool, Fail> {
-    Ok((*value == form_at(alloc, other)?) == same)
+    Ok((*value == *leaked(alloc, form_at(alloc, other)?)?) == same)
 }
 
 /// A value of each form is equal to its copy, and to no other one.
 #[test]
 fn each_form_is_copied(rt: HostRuntime) -> Result<(), Fail> {
     for place in 0..FORMS {
-        let value = form_at(rt.alloc(), place)?;
-        assert!(rt; equals_its_copy(&value)?, "{place}");
+        let value = leaked(rt.alloc(), form_at(rt.alloc(), place)?)?;
+        assert!(rt; equals_its_copy(value)?, "{place}");
         for other in 0..FORMS {
             assert!(rt;
-                are_apart(rt.alloc(), &value, other, place == other)?,
+                are_apart(rt.alloc(), value, other, place == other)?,
                 "{place} {other}"
             );
         }
@@ -114,36 +117,38 @@ fn each_form_is_copied(rt: HostRuntime) -> Result<(), Fail> {
     Ok(())
 }
 
-/// Whether the refusal hands back the value of the place, and a copy of it does so too.
+/// Whether the refusal hands back the value of the place to the field `f10`.
 fn hands_back(alloc: Global, refusal: &SetFieldError, place: usize) -> Result<bool, Fail> {
-    match refusal.clone()? {
+    match refusal {
         SetFieldError::InvalidType { field, value } => {
-            Ok(
-                field.name() == "f10"
-                    && value == form_at(alloc, place)?
-                    && refusal.clone()? == *refusal,
-            )
+            Ok(field.name() == "f10" && *value == *leaked(alloc, form_at(alloc, place)?)?)
         }
         _ => Ok(false),
     }
+}
+
+/// Whether the refusal hands back the value of the place, and a copy of it does so too and is equal to it.
+fn is_handed_back(alloc: Global, refusal: &SetFieldError, place: usize) -> Result<bool, Fail> {
+    let copy = leaked(alloc, refusal.clone()?)?;
+    Ok(*copy == *refusal && hands_back(alloc, refusal, place)? && hands_back(alloc, copy, place)?)
 }
 
 /// Whether the field of the number 10 takes the value of the place if it is a message, and else hands it back.
 fn refuses(alloc: Global, message: &mut DynamicMessage, place: usize) -> Result<bool, Fail> {
     let value = form_at(alloc, place)?;
     let is_taken = value.as_message().is_some();
-    match message.try_set_field_by_number(10, value) {
+    match leaked(alloc, message.try_set_field_by_number(10, value))? {
         Ok(()) => Ok(is_taken),
-        Err(refusal) => Ok(!is_taken && hands_back(alloc, &refusal, place)?),
+        Err(refusal) => Ok(!is_taken && is_handed_back(alloc, refusal, place)?),
     }
 }
 
 /// A refusal hands back a value of any form, and so does its copy.
 #[test]
 fn each_form_is_handed_back(rt: HostRuntime) -> Result<(), Fail> {
-    let mut message = decoded(rt.alloc(), sets::every(), "e.Every", b"")?;
+    let message = decoded(rt.alloc(), sets::every(), "e.Every", b"")?;
     for place in 0..FORMS {
-        assert!(rt; refuses(rt.alloc(), &mut message, place)?, "{place}");
+        assert!(rt; refuses(rt.alloc(), message, place)?, "{place}");
     }
     Ok(())
 }

@@ -1,12 +1,12 @@
 //! Each kind: its name in refusals, what texts spell of it, and its defaults.
 
 use crate::shown::{Shown, is_shown};
-use crate::types::{decoded, every_field, named_type};
+use crate::types::{decoded, extension_at, field_at, kind_of, message_type};
 use prost_reflect::{
-    Cardinality, DescriptorPool, DynamicMessage, ExtensionDescriptor, FieldDescriptor,
-    FieldDescriptorLike, Kind, MapKey, MessageDescriptor, SetFieldError, Value,
+    Cardinality, DynamicMessage, ExtensionDescriptor, FieldDescriptor, FieldDescriptorLike, Kind,
+    MapKey, MessageDescriptor, SetFieldError, Value,
 };
-use prost_reflect_samples::sets;
+use prost_reflect_samples::{leaked, sets};
 use std::alloc::{AllocError, Global};
 use std::collections::BTreeMap;
 use std::test::Fail;
@@ -85,10 +85,10 @@ fn refuses_as(
     number: u32,
     text: &str,
 ) -> Result<bool, Fail> {
-    let value = unfit(alloc, &every_field(&message.descriptor()?, number)?);
-    match message.try_set_field_by_number(number, value) {
+    let value = unfit(alloc, field_at(alloc, every_type(alloc)?, number)?);
+    match leaked(alloc, message.try_set_field_by_number(number, value))? {
         Ok(()) => Ok(false),
-        Err(refused) => Ok(reads_as(alloc, &refused, text)?),
+        Err(refused) => Ok(reads_as(alloc, refused, text)?),
     }
 }
 
@@ -99,12 +99,9 @@ fn reads_as(alloc: Global, refusal: &SetFieldError, text: &str) -> Result<bool, 
 
 #[test]
 fn refusals_name_each_type(rt: HostRuntime) -> Result<(), Fail> {
-    let mut message = decoded(rt.alloc(), sets::every(), "e.Every", b"")?;
+    let message = decoded(rt.alloc(), sets::every(), "e.Every", b"")?;
     for (number, text) in &TYPES {
-        assert!(rt;
-            refuses_as(rt.alloc(), &mut message, *number, text)?,
-            "{number}"
-        );
+        assert!(rt; refuses_as(rt.alloc(), message, *number, text)?, "{number}");
     }
     Ok(())
 }
@@ -131,6 +128,11 @@ static NAMES: [(u32, &str); 18] = [
     (18, "sint64"),
 ];
 
+/// The kind of the field of the number.
+fn kind_at(alloc: Global, every: &MessageDescriptor, number: u32) -> Result<&'static Kind, Fail> {
+    kind_of(alloc, field_at(alloc, every, number)?)
+}
+
 /// Whether the kind of the field of the number has this name.
 fn is_named(
     alloc: Global,
@@ -138,7 +140,7 @@ fn is_named(
     number: u32,
     name: &str,
 ) -> Result<bool, Fail> {
-    let kind = every_field(every, number)?.kind()?;
+    let kind = kind_at(alloc, every, number)?;
     Ok(format!(in alloc; "{kind}")?.as_str() == name)
 }
 
@@ -146,7 +148,7 @@ fn is_named(
 fn kinds_have_names(rt: HostRuntime) -> Result<(), Fail> {
     let every = every_type(rt.alloc())?;
     for (number, name) in &NAMES {
-        assert!(rt; is_named(rt.alloc(), &every, *number, name)?, "{number}");
+        assert!(rt; is_named(rt.alloc(), every, *number, name)?, "{number}");
     }
     Ok(())
 }
@@ -220,8 +222,7 @@ fn field_reads(
     text: &str,
     expected: Shown,
 ) -> Result<bool, Fail> {
-    let kind = every_field(every, number)?.kind()?;
-    Ok(reads(alloc, &kind, text, expected)?)
+    Ok(reads(alloc, kind_at(alloc, every, number)?, text, expected)?)
 }
 
 #[test]
@@ -229,7 +230,7 @@ fn texts_spell_values_of_each_kind(rt: HostRuntime) -> Result<(), Fail> {
     let every = every_type(rt.alloc())?;
     for (number, text, expected) in &TEXTS {
         assert!(rt;
-            field_reads(rt.alloc(), &every, *number, text, *expected)?,
+            field_reads(rt.alloc(), every, *number, text, *expected)?,
             "{number} {text}"
         );
     }
@@ -237,8 +238,8 @@ fn texts_spell_values_of_each_kind(rt: HostRuntime) -> Result<(), Fail> {
 }
 
 /// The type `Every`.
-fn every_type(alloc: Global) -> Result<MessageDescriptor, Fail> {
-    named_type(&DescriptorPool::decode(alloc, sets::every())?, "e.Every")
+fn every_type(alloc: Global) -> Result<&'static MessageDescriptor, Fail> {
+    message_type(alloc, sets::every(), "e.Every")
 }
 
 /// The type code of a kind, and its default.
@@ -285,12 +286,9 @@ static WRITTEN: [(u32, Shown); 16] = [
 
 /// Whether the default of the kind is shown so, by both calls.
 fn kind_has(alloc: Global, kind: &Kind, expected: Shown) -> Result<bool, AllocError> {
-    let default = kind.default_value(alloc)?;
-    Ok(
-        is_shown(&default, expected)
-            && default.is_default(kind)
-            && is_shown(&Value::default_value(alloc, kind)?, expected),
-    )
+    let default = leaked(alloc, kind.default_value(alloc)?)?;
+    let again = Value::default_value(alloc, kind)?;
+    Ok(is_shown(default, expected) && default.is_default(kind) && is_shown(&again, expected))
 }
 
 /// Whether the default of a field or an extension is shown so, by the call of their trait.
@@ -305,12 +303,10 @@ fn like_has<F: FieldDescriptorLike>(
 
 /// Whether the default of the field is shown so, by both calls.
 fn field_has(alloc: Global, field: &FieldDescriptor, expected: Shown) -> Result<bool, AllocError> {
-    let default = field.default_value(alloc)?;
-    Ok(
-        is_shown(&default, expected)
-            && default.is_default_for_field(field)
-            && is_shown(&Value::default_value_for_field(alloc, field)?, expected),
-    )
+    let default = leaked(alloc, field.default_value(alloc)?)?;
+    let again = Value::default_value_for_field(alloc, field)?;
+    let is_told = default.is_default_for_field(field);
+    Ok(is_told && is_shown(default, expected) && is_shown(&again, expected))
 }
 
 /// Whether the default of the extension is shown so, by both calls.
@@ -319,15 +315,10 @@ fn extension_has(
     extension: &ExtensionDescriptor,
     expected: Shown,
 ) -> Result<bool, AllocError> {
-    let default = extension.default_value(alloc)?;
-    Ok(
-        is_shown(&default, expected)
-            && default.is_default_for_extension(extension)
-            && is_shown(
-                &Value::default_value_for_extension(alloc, extension)?,
-                expected,
-            ),
-    )
+    let default = leaked(alloc, extension.default_value(alloc)?)?;
+    let again = Value::default_value_for_extension(alloc, extension)?;
+    let is_told = default.is_default_for_extension(extension);
+    Ok(is_told && is_shown(default, expected) && is_shown(&again, expected))
 }
 
 /// Whether the extension of the number has this default.
@@ -337,8 +328,8 @@ fn extension_at_has(
     number: u32,
     expected: Shown,
 ) -> Result<bool, Fail> {
-    let extension = every.get_extension(number)?.ok_or("no such extension")?;
-    Ok(extension_has(alloc, &extension, expected)? && like_has(alloc, &extension, expected)?)
+    let extension = extension_at(alloc, every, number)?;
+    Ok(extension_has(alloc, extension, expected)? && like_has(alloc, extension, expected)?)
 }
 
 /// Whether the field of the number has this default.
@@ -348,18 +339,8 @@ fn field_at_has(
     number: u32,
     expected: Shown,
 ) -> Result<bool, Fail> {
-    let field = every_field(every, number)?;
-    Ok(field_has(alloc, &field, expected)? && like_has(alloc, &field, expected)?)
-}
-
-/// Whether the kind of the type code has this default.
-fn kind_at_has(
-    alloc: Global,
-    every: &MessageDescriptor,
-    number: u32,
-    expected: Shown,
-) -> Result<bool, Fail> {
-    Ok(kind_has(alloc, &every_field(every, number)?.kind()?, expected)?)
+    let field = field_at(alloc, every, number)?;
+    Ok(field_has(alloc, field, expected)? && like_has(alloc, field, expected)?)
 }
 
 /// Whether the kind of the type code has this default, and so has the singular field of it; and whether the list of it has none.
@@ -371,7 +352,7 @@ fn has_zero(
 ) -> Result<bool, Fail> {
     let list = code.wrapping_add(20);
     Ok(
-        kind_at_has(alloc, every, code, expected)?
+        kind_has(alloc, kind_at(alloc, every, code)?, expected)?
             && field_at_has(alloc, every, code, expected)?
             && field_at_has(alloc, every, list, Shown::NoItems)?
             && extension_at_has(alloc, every, code.wrapping_add(120), Shown::NoItems)?,
@@ -382,12 +363,12 @@ fn has_zero(
 fn each_kind_has_a_default(rt: HostRuntime) -> Result<(), Fail> {
     let every = every_type(rt.alloc())?;
     for (code, expected) in &ZEROS {
-        assert!(rt; has_zero(rt.alloc(), &every, *code, *expected)?, "{code}");
+        assert!(rt; has_zero(rt.alloc(), every, *code, *expected)?, "{code}");
     }
     for number in 41..59_u32 {
         if number != 50 {
             assert!(rt;
-                field_at_has(rt.alloc(), &every, number, Shown::NoPairs)?,
+                field_at_has(rt.alloc(), every, number, Shown::NoPairs)?,
                 "{number}"
             );
         }
@@ -412,13 +393,10 @@ fn has_written(
 fn a_default_of_each_kind_is_read(rt: HostRuntime) -> Result<(), Fail> {
     let every = every_type(rt.alloc())?;
     for (code, expected) in &WRITTEN {
-        assert!(rt;
-            has_written(rt.alloc(), &every, *code, *expected)?,
-            "{code}"
-        );
+        assert!(rt; has_written(rt.alloc(), every, *code, *expected)?, "{code}");
     }
     for number in [110, 111] {
-        assert!(rt; extension_at_has(rt.alloc(), &every, number, Shown::Empty)?);
+        assert!(rt; extension_at_has(rt.alloc(), every, number, Shown::Empty)?);
     }
     Ok(())
 }
@@ -447,17 +425,16 @@ static WIRES: [(u32, u8); 18] = [
 ];
 
 /// The number of the wire type of the kind that the field of the number has, and a copy of the kind.
-fn wire_of(every: &MessageDescriptor, number: u32) -> Result<[u8; 2], Fail> {
-    let kind = every_field(every, number)?.kind()?;
-    let copy = kind.clone()?;
-    Ok([kind.wire_type().code(), copy.wire_type().code()])
+fn wire_of(alloc: Global, every: &MessageDescriptor, number: u32) -> Result<[u8; 2], Fail> {
+    let kind = kind_at(alloc, every, number)?;
+    Ok([kind.wire_type().code(), kind.clone()?.wire_type().code()])
 }
 
 #[test]
 fn each_kind_has_a_wire_type(rt: HostRuntime) -> Result<(), Fail> {
     let every = every_type(rt.alloc())?;
     for (code, wire) in &WIRES {
-        assert!(rt; wire_of(&every, *code)? == [*wire; 2], "{code}");
+        assert!(rt; wire_of(rt.alloc(), every, *code)? == [*wire; 2], "{code}");
     }
     Ok(())
 }

@@ -33,7 +33,8 @@ static LENGTHS: [(&[u8], usize); 12] = [
 ];
 
 fn encoded_len(alloc: Global, bytes: &[u8]) -> Result<Option<usize>, Fail> {
-    let message = DynamicMessage::decode(alloc, message_type(alloc, sets::forms(), "T")?, bytes)?;
+    let descriptor = message_type(alloc, sets::forms(), "T")?.clone()?;
+    let message = DynamicMessage::decode(alloc, descriptor, bytes)?;
     Ok(message.encoded_len())
 }
 

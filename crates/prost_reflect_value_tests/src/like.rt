@@ -1,7 +1,9 @@
 //! What is asked of fields and of extensions alike, through their trait.
 
-use crate::types::{kinds_extension, kinds_field, kinds_pool, message_type, named_field};
-use prost_reflect::{FieldDescriptor, FieldDescriptorLike, Kind, MessageDescriptor, Value};
+use crate::types::{
+    extension_at, field_at, kinds_extension, kinds_field, message_type, named_field,
+};
+use prost_reflect::{FieldDescriptor, FieldDescriptorLike, Kind, Value};
 use prost_reflect_samples::sets;
 use std::alloc::{AllocError, Global};
 use std::test::Fail;
@@ -42,8 +44,8 @@ fn is_shaped<F: FieldDescriptorLike>(field: &F, number: u32, expected: [bool; 6]
 }
 
 /// The field of a name of `T`, of the proto3 file of `forms`.
-fn forms_field(alloc: Global, name: &str) -> Result<FieldDescriptor, Fail> {
-    named_field(&message_type(alloc, sets::forms(), "T")?, name)
+fn forms_field(alloc: Global, name: &str) -> Result<&'static FieldDescriptor, Fail> {
+    named_field(alloc, message_type(alloc, sets::forms(), "T")?, name)
 }
 
 /// A field of `V`, its number and its shape.
@@ -59,29 +61,29 @@ static SHAPES: &[(&str, u32, [bool; 6])] = &[
 #[test]
 fn fields_have_shapes(rt: HostRuntime) -> Result<(), Fail> {
     for row in SHAPES {
-        let field = kinds_field(&kinds_pool(rt.alloc())?, row.0)?;
-        assert!(rt; is_shaped(&field, row.1, row.2), "of the field {}", row.0);
+        let field = kinds_field(rt.alloc(), row.0)?;
+        assert!(rt; is_shaped(field, row.1, row.2), "of the field {}", row.0);
     }
     let packed = forms_field(rt.alloc(), "a")?;
-    assert!(rt; is_shaped(&packed, 1, [false, false, true, false, true, true]));
-    assert!(rt; FieldDescriptorLike::kind(&packed)? == Kind::Int32);
+    assert!(rt; is_shaped(packed, 1, [false, false, true, false, true, true]));
+    assert!(rt; FieldDescriptorLike::kind(packed)? == Kind::Int32);
     Ok(())
 }
 
 #[test]
 fn extensions_have_shapes(rt: HostRuntime) -> Result<(), Fail> {
-    let extension = kinds_extension(&kinds_pool(rt.alloc())?)?;
-    assert!(rt; is_shaped(&extension, 100, [true, false, false, false, false, true]));
-    assert!(rt; FieldDescriptorLike::kind(&extension)? == Kind::Sint64);
+    let extension = kinds_extension(rt.alloc())?;
+    assert!(rt; is_shaped(extension, 100, [true, false, false, false, false, true]));
+    assert!(rt; FieldDescriptorLike::kind(extension)? == Kind::Sint64);
     Ok(())
 }
 
 /// With presence each value is had.
 #[test]
 fn fields_with_presence_have_each_value(rt: HostRuntime) -> Result<(), Fail> {
-    let written = kinds_field(&kinds_pool(rt.alloc())?, "f")?;
-    assert!(rt; has_default(rt.alloc(), &written, &Value::F32(1_065_353_216))?);
-    assert!(rt; !has_default(rt.alloc(), &written, &Value::F32(0))?);
+    let written = kinds_field(rt.alloc(), "f")?;
+    assert!(rt; has_default(rt.alloc(), written, &Value::F32(1_065_353_216))?);
+    assert!(rt; !has_default(rt.alloc(), written, &Value::F32(0))?);
     assert!(rt; written.has(&Value::F32(1_065_353_216)));
     Ok(())
 }
@@ -89,8 +91,8 @@ fn fields_with_presence_have_each_value(rt: HostRuntime) -> Result<(), Fail> {
 /// An extension has presence.
 #[test]
 fn extensions_have_values(rt: HostRuntime) -> Result<(), Fail> {
-    let extension = kinds_extension(&kinds_pool(rt.alloc())?)?;
-    assert!(rt; has_default(rt.alloc(), &extension, &Value::I64(-3))?);
+    let extension = kinds_extension(rt.alloc())?;
+    assert!(rt; has_default(rt.alloc(), extension, &Value::I64(-3))?);
     assert!(rt; !extension.is_valid(&Value::I32(-3)));
     assert!(rt; extension.has(&Value::I64(-3)));
     Ok(())
@@ -105,23 +107,12 @@ fn fields_without_presence_have_no_default(rt: HostRuntime) -> Result<(), Fail> 
     Ok(())
 }
 
-/// Whether the field of a number of `Choices` is a member of `first`.
-fn is_of_first(choices: &MessageDescriptor, number: u32) -> Result<bool, Fail> {
-    let field = choices.get_field(number)?.ok_or("no such field")?;
-    Ok(is_member_of(&field, "first")?)
-}
-
-/// Whether the extension 12 of `Choices` is of no oneof.
-fn extension_is_of_none(choices: &MessageDescriptor) -> Result<bool, Fail> {
-    let extension = choices.get_extension(12)?.ok_or("no extension 12")?;
-    Ok(FieldDescriptorLike::containing_oneof(&extension)?.is_none())
-}
-
 #[test]
 fn fields_alone_are_members_of_oneofs(rt: HostRuntime) -> Result<(), Fail> {
     let choices = message_type(rt.alloc(), sets::choices(), "Choices")?;
-    assert!(rt; is_of_first(&choices, 4)?);
-    assert!(rt; !is_of_first(&choices, 1)?);
-    assert!(rt; extension_is_of_none(&choices)?);
+    assert!(rt; is_member_of(field_at(rt.alloc(), choices, 4)?, "first")?);
+    assert!(rt; !is_member_of(field_at(rt.alloc(), choices, 1)?, "first")?);
+    let extension = extension_at(rt.alloc(), choices, 12)?;
+    assert!(rt; FieldDescriptorLike::containing_oneof(extension)?.is_none());
     Ok(())
 }

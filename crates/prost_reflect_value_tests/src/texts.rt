@@ -1,6 +1,6 @@
 //! Values that texts spell.
 
-use crate::types::{kinds_kind, kinds_pool};
+use crate::types::kinds_kind;
 use prost_reflect::{Kind, Value};
 use std::alloc::{AllocError, Global};
 use std::test::Fail;
@@ -54,11 +54,10 @@ fn bools_are_spelled(rt: HostRuntime) -> Result<(), Fail> {
 /// An enum has names; a message has no texts.
 #[test]
 fn names_are_spelled(rt: HostRuntime) -> Result<(), Fail> {
-    let e = kinds_kind(&kinds_pool(rt.alloc())?, "e")?;
-    assert!(rt; reads(rt.alloc(), &e, "B", Some(Value::EnumNumber(1)))?);
-    assert!(rt; reads(rt.alloc(), &e, "C", None)?);
-    let message = kinds_kind(&kinds_pool(rt.alloc())?, "v")?;
-    assert!(rt; reads(rt.alloc(), &message, "", None)?);
+    let e = kinds_kind(rt.alloc(), "e")?;
+    assert!(rt; reads(rt.alloc(), e, "B", Some(Value::EnumNumber(1)))?);
+    assert!(rt; reads(rt.alloc(), e, "C", None)?);
+    assert!(rt; reads(rt.alloc(), kinds_kind(rt.alloc(), "v")?, "", None)?);
     Ok(())
 }
 

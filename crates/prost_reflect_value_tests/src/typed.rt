@@ -1,8 +1,8 @@
 //! Whether messages may be encoded, and whether the messages inside are of their fields' types.
 
-use crate::types::{decoded, is_decoded, map_of, own_field, text_of};
+use crate::types::{field_at, is_decoded, map_of, message_of, message_type, own_field, text_of};
 use prost_reflect::{DynamicMessage, MapKey, Value};
-use prost_reflect_samples::sets;
+use prost_reflect_samples::{leaked, sets};
 use std::alloc::Global;
 use std::test::Fail;
 
@@ -13,19 +13,19 @@ fn asked(message: &DynamicMessage) -> (bool, bool) {
 
 /// Writes the value at the field of a name, through a loan.
 fn put(alloc: Global, message: &mut DynamicMessage, name: &str, value: Value) -> Result<(), Fail> {
-    let field = own_field(message, name)?;
-    if !message.owns_field(&field) {
-        return Err(Fail::from("a field of another type"));
+    let field = own_field(alloc, message, name)?;
+    if message.owns_field(field) {
+        *message.get_field_mut(alloc, field)? = value;
+        Ok(())
+    } else {
+        Err(Fail::from("a field of another type"))
     }
-    let lent = message.get_field_mut(alloc, &field)?;
-    *lent = value;
-    Ok(())
 }
 
 /// The message that is read of the digits, by the type of a name.
 fn read(alloc: Global, set: &[u8], name: &str, digits: &str) -> Result<DynamicMessage, Fail> {
-    let bytes = hex::decode(alloc, digits)?;
-    decoded(alloc, set, name, bytes.as_slice())
+    let bytes = leaked(alloc, hex::decode(alloc, digits)?)?;
+    message_of(alloc, message_type(alloc, set, name)?, bytes.as_slice())
 }
 
 /// The message that is read of the digits, by the type of a name in the newer set.
@@ -56,21 +56,22 @@ fn with_pair(alloc: Global, name: &str, value: Value) -> Result<DynamicMessage, 
 }
 
 /// Clears the field of the number 1.
-fn clear_first(message: &mut DynamicMessage) -> Result<(), Fail> {
-    let first = message.descriptor()?.get_field(1)?.ok_or("no such field")?;
-    if !message.owns_field(&first) {
-        return Err(Fail::from("a field of another type"));
+fn clear_first(alloc: Global, message: &mut DynamicMessage) -> Result<(), Fail> {
+    let first = field_at(alloc, leaked(alloc, message.descriptor()?)?, 1)?;
+    if message.owns_field(first) {
+        message.clear_field(first);
+        Ok(())
+    } else {
+        Err(Fail::from("a field of another type"))
     }
-    message.clear_field(&first);
-    Ok(())
 }
 
 #[test]
 fn a_value_that_does_not_fit_is_found(rt: HostRuntime) -> Result<(), Fail> {
-    let mut message = with_text(rt.alloc())?;
-    assert!(rt; asked(&message) == (false, true));
-    clear_first(&mut message)?;
-    assert!(rt; asked(&message) == (true, true));
+    let message = leaked(rt.alloc(), with_text(rt.alloc())?)?;
+    assert!(rt; asked(message) == (false, true));
+    clear_first(rt.alloc(), message)?;
+    assert!(rt; asked(message) == (true, true));
     Ok(())
 }
 
@@ -98,10 +99,10 @@ fn writes(alloc: Global, message: &DynamicMessage, digits: &str) -> Result<bool,
 /// A message is written by its own type.
 #[test]
 fn a_message_of_another_type_is_found(rt: HostRuntime) -> Result<(), Fail> {
-    let other = around_another(rt.alloc())?;
-    assert!(rt; asked(&other) == (true, false));
-    assert!(rt; writes(rt.alloc(), &other, "1a020801")?);
-    let outer = around(rt.alloc(), other)?;
+    let other = leaked(rt.alloc(), around_another(rt.alloc())?)?;
+    assert!(rt; asked(other) == (true, false));
+    assert!(rt; writes(rt.alloc(), other, "1a020801")?);
+    let outer = around(rt.alloc(), around_another(rt.alloc())?)?;
     assert!(rt; asked(&outer) == (true, false));
     Ok(())
 }
@@ -154,12 +155,13 @@ fn merges(message: &mut DynamicMessage, bytes: &[u8]) -> Result<bool, Fail> {
 #[test]
 fn what_passes_is_merged_into(rt: HostRuntime) -> Result<(), Fail> {
     let alloc = rt.alloc();
-    let mut message = around(alloc, read_newer(alloc, "package.MyMessage", "0805")?)?;
-    assert!(rt; merges(&mut message, &[0x10, 1])?);
+    let inner = read_newer(alloc, "package.MyMessage", "0805")?;
+    let message = leaked(alloc, around(alloc, inner)?)?;
+    assert!(rt; merges(message, &[0x10, 1])?);
     assert!(rt;
         is_decoded(
             alloc,
-            &message,
+            message,
             sets::newer(),
             "package.MyMessage",
             &[0x1a, 2, 8, 5, 0x10, 1]
@@ -180,11 +182,11 @@ fn a_message_alone_in_a_map_field_is_of_no_type(rt: HostRuntime) -> Result<(), F
 /// The closed enum declares 1 and 0.
 #[test]
 fn an_undeclared_number_does_not_fit(rt: HostRuntime) -> Result<(), Fail> {
-    let mut message = read(rt.alloc(), sets::kinds(), "v.V", "")?;
-    put(rt.alloc(), &mut message, "e", Value::EnumNumber(5))?;
-    assert!(rt; asked(&message) == (false, true));
-    put(rt.alloc(), &mut message, "e", Value::EnumNumber(1))?;
-    assert!(rt; asked(&message) == (true, true));
+    let message = leaked(rt.alloc(), read(rt.alloc(), sets::kinds(), "v.V", "")?)?;
+    put(rt.alloc(), message, "e", Value::EnumNumber(5))?;
+    assert!(rt; asked(message) == (false, true));
+    put(rt.alloc(), message, "e", Value::EnumNumber(1))?;
+    assert!(rt; asked(message) == (true, true));
     Ok(())
 }
 
@@ -200,10 +202,8 @@ static READ: [(&str, &str); 5] = [
 #[test]
 fn what_is_read_is_both(rt: HostRuntime) -> Result<(), Fail> {
     for (name, digits) in READ {
-        let message = read_newer(rt.alloc(), name, digits)?;
-        assert!(rt; asked(&message) == (true, true));
+        assert!(rt; asked(&read_newer(rt.alloc(), name, digits)?) == (true, true));
     }
-    let stray = read(rt.alloc(), sets::kinds(), "v.V", "28052801")?;
-    assert!(rt; asked(&stray) == (true, true));
+    assert!(rt; asked(&read(rt.alloc(), sets::kinds(), "v.V", "28052801")?) == (true, true));
     Ok(())
 }

@@ -4,17 +4,24 @@ use prost_reflect::{
     DescriptorPool, DynamicMessage, ExtensionDescriptor, FieldDescriptor, Kind, MapKey,
     MessageDescriptor, Value,
 };
-use prost_reflect_samples::sets;
+use prost_reflect_samples::{leaked, sets};
 use std::alloc::{AllocError, Global};
 use std::collections::BTreeMap;
 use std::test::Fail;
 
+/// The pool of a descriptor set.
+pub(crate) fn pool_of(alloc: Global, set: &[u8]) -> Result<&'static DescriptorPool, Fail> {
+    Ok(leaked(alloc, DescriptorPool::decode(alloc, set)?)?)
+}
+
 /// The message type of a full name in a pool.
-pub(crate) fn named_type(pool: &DescriptorPool, name: &str) -> Result<MessageDescriptor, Fail> {
-    Ok(
-        pool.get_message_by_name(name)?
-            .ok_or("no such message type")?,
-    )
+pub(crate) fn named_type(
+    alloc: Global,
+    pool: &DescriptorPool,
+    name: &str,
+) -> Result<&'static MessageDescriptor, Fail> {
+    let found = pool.get_message_by_name(name)?;
+    Ok(leaked(alloc, found.ok_or("no such message type")?)?)
 }
 
 /// The message type of a name in a descriptor set.
@@ -22,8 +29,17 @@ pub(crate) fn message_type(
     alloc: Global,
     set: &[u8],
     name: &str,
-) -> Result<MessageDescriptor, Fail> {
-    named_type(&DescriptorPool::decode(alloc, set)?, name)
+) -> Result<&'static MessageDescriptor, Fail> {
+    named_type(alloc, pool_of(alloc, set)?, name)
+}
+
+/// The message that the bytes mean to a message type.
+pub(crate) fn message_of(
+    alloc: Global,
+    descriptor: &MessageDescriptor,
+    bytes: &[u8],
+) -> Result<DynamicMessage, Fail> {
+    Ok(DynamicMessage::decode(alloc, descriptor.clone()?, bytes)?)
 }
 
 /// The message that the bytes mean to the type of a name in a descriptor set.
@@ -32,9 +48,9 @@ pub(crate) fn decoded(
     set: &[u8],
     name: &str,
     bytes: &[u8],
-) -> Result<DynamicMessage, Fail> {
+) -> Result<&'static mut DynamicMessage, Fail> {
     let descriptor = message_type(alloc, set, name)?;
-    Ok(DynamicMessage::decode(alloc, descriptor, bytes)?)
+    Ok(leaked(alloc, message_of(alloc, descriptor, bytes)?)?)
 }
 
 /// Whether the message is the one that the bytes mean to the type of a name in a descriptor set.
@@ -45,62 +61,82 @@ pub(crate) fn is_decoded(
     name: &str,
     bytes: &[u8],
 ) -> Result<bool, Fail> {
-    Ok(*message == decoded(alloc, set, name, bytes)?)
+    Ok(*message == *decoded(alloc, set, name, bytes)?)
 }
 
-/// An empty message of the type of a full name in a pool, as a value.
-pub(crate) fn message_of(alloc: Global, pool: &DescriptorPool, name: &str) -> Result<Value, Fail> {
-    Ok(Value::Message(DynamicMessage::new(alloc, named_type(pool, name)?)))
+/// The message that the bytes mean to the type of a full name in a pool, as a value.
+pub(crate) fn message_value(
+    alloc: Global,
+    pool: &DescriptorPool,
+    name: &str,
+    bytes: &[u8],
+) -> Result<Value, Fail> {
+    let descriptor = named_type(alloc, pool, name)?;
+    Ok(Value::Message(message_of(alloc, descriptor, bytes)?))
 }
 
 /// The field of a name of a message type.
 pub(crate) fn named_field(
+    alloc: Global,
     descriptor: &MessageDescriptor,
     name: &str,
-) -> Result<FieldDescriptor, Fail> {
-    Ok(descriptor.get_field_by_name(name)?.ok_or("no such field")?)
+) -> Result<&'static FieldDescriptor, Fail> {
+    let found = descriptor.get_field_by_name(name)?;
+    Ok(leaked(alloc, found.ok_or("no such field")?)?)
 }
 
 /// The field of a number of a message type.
-pub(crate) fn every_field(
+pub(crate) fn field_at(
+    alloc: Global,
     descriptor: &MessageDescriptor,
     number: u32,
-) -> Result<FieldDescriptor, Fail> {
-    Ok(descriptor.get_field(number)?.ok_or("no such field")?)
+) -> Result<&'static FieldDescriptor, Fail> {
+    let found = descriptor.get_field(number)?;
+    Ok(leaked(alloc, found.ok_or("no such field")?)?)
+}
+
+/// The extension of a number of a message type.
+pub(crate) fn extension_at(
+    alloc: Global,
+    descriptor: &MessageDescriptor,
+    number: u32,
+) -> Result<&'static ExtensionDescriptor, Fail> {
+    let found = descriptor.get_extension(number)?;
+    Ok(leaked(alloc, found.ok_or("no such extension")?)?)
+}
+
+/// The kind of a field.
+pub(crate) fn kind_of(alloc: Global, field: &FieldDescriptor) -> Result<&'static Kind, Fail> {
+    Ok(leaked(alloc, field.kind()?)?)
 }
 
 /// The field of a name of the message's own type.
-pub(crate) fn own_field(message: &DynamicMessage, name: &str) -> Result<FieldDescriptor, Fail> {
-    named_field(&message.descriptor()?, name)
-}
-
-/// The pool of both files of `kinds`.
-pub(crate) fn kinds_pool(alloc: Global) -> Result<DescriptorPool, Fail> {
-    Ok(DescriptorPool::decode(alloc, sets::kinds())?)
+pub(crate) fn own_field(
+    alloc: Global,
+    message: &DynamicMessage,
+    name: &str,
+) -> Result<&'static FieldDescriptor, Fail> {
+    named_field(alloc, leaked(alloc, message.descriptor()?)?, name)
 }
 
 /// The descriptor of `V`.
-pub(crate) fn kinds_descriptor(pool: &DescriptorPool) -> Result<MessageDescriptor, Fail> {
-    named_type(pool, "v.V")
+pub(crate) fn kinds_type(alloc: Global) -> Result<&'static MessageDescriptor, Fail> {
+    message_type(alloc, sets::kinds(), "v.V")
 }
 
 /// The field of a name of `V`.
-pub(crate) fn kinds_field(pool: &DescriptorPool, name: &str) -> Result<FieldDescriptor, Fail> {
-    named_field(&kinds_descriptor(pool)?, name)
+pub(crate) fn kinds_field(alloc: Global, name: &str) -> Result<&'static FieldDescriptor, Fail> {
+    named_field(alloc, kinds_type(alloc)?, name)
 }
 
 /// The kind of the field of a name of `V`.
-pub(crate) fn kinds_kind(pool: &DescriptorPool, name: &str) -> Result<Kind, Fail> {
-    Ok(kinds_field(pool, name)?.kind()?)
+pub(crate) fn kinds_kind(alloc: Global, name: &str) -> Result<&'static Kind, Fail> {
+    kind_of(alloc, kinds_field(alloc, name)?)
 }
 
 /// The extension of the number 100 of `V`.
-pub(crate) fn kinds_extension(pool: &DescriptorPool) -> Result<ExtensionDescriptor, Fail> {
-    Ok(
-        kinds_descriptor(pool)?
-            .get_extension(100)?
-            .ok_or("no extension")?,
-    )
+pub(crate) fn kinds_extension(alloc: Global) -> Result<&'static ExtensionDescriptor, Fail> {
+    extension_at(alloc, kinds_type(alloc)?, 100)
 }
 
 /// A text, as a value.

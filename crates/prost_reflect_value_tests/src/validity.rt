@@ -1,9 +1,10 @@
 //! Which values fields, kinds and extensions take.
 
 use crate::types::{
-    kinds_extension, kinds_field, kinds_kind, kinds_pool, map_of, message_of, text_key,
+    kinds_extension, kinds_field, kinds_kind, map_of, message_value, pool_of, text_key,
 };
-use prost_reflect::{DescriptorPool, Kind, MapKey, Value};
+use prost_reflect::{Kind, MapKey, Value};
+use prost_reflect_samples::{leaked, sets};
 use std::alloc::Global;
 use std::collections::BTreeMap;
 use std::test::Fail;
@@ -18,8 +19,13 @@ fn text_map_of(alloc: Global, value: Value) -> Result<Value, Fail> {
     Ok(map_of(alloc, text_key(alloc, "k")?, value)?)
 }
 
+/// An empty message of the type of a name.
+fn empty(alloc: Global, name: &str) -> Result<Value, Fail> {
+    message_value(alloc, pool_of(alloc, sets::kinds())?, name, b"")
+}
+
 /// The value that a word of the rows stands for.
-fn sample(alloc: Global, pool: &DescriptorPool, word: &str) -> Result<Value, Fail> {
+fn sample(alloc: Global, word: &str) -> Result<Value, Fail> {
     match word {
         "no items" => Ok(Value::List(Vec::new(alloc))),
         "i32 items" => list_of(alloc, Value::I32(1)),
@@ -28,8 +34,8 @@ fn sample(alloc: Global, pool: &DescriptorPool, word: &str) -> Result<Value, Fai
         "string to i32" => text_map_of(alloc, Value::I32(1)),
         "string to i64" => text_map_of(alloc, Value::I64(1)),
         "i32 to i32" => Ok(map_of(alloc, MapKey::I32(1), Value::I32(1))?),
-        "an entry" => message_of(alloc, pool, "v.V.MEntry"),
-        "a message" => message_of(alloc, pool, "o.W"),
+        "an entry" => empty(alloc, "v.V.MEntry"),
+        "a message" => empty(alloc, "o.W"),
         "number 0" => Ok(Value::EnumNumber(0)),
         "number 7" => Ok(Value::EnumNumber(7)),
         "i32" => Ok(Value::I32(1)),
@@ -65,9 +71,8 @@ static ROWS: &[(&str, &str, bool)] = &[
 
 /// Whether the field of a name of `V` takes the value of a word.
 fn field_takes(alloc: Global, name: &str, word: &str) -> Result<bool, Fail> {
-    let pool = kinds_pool(alloc)?;
-    let value = sample(alloc, &pool, word)?;
-    Ok(value.is_valid_for_field(&kinds_field(&pool, name)?))
+    let value = leaked(alloc, sample(alloc, word)?)?;
+    Ok(value.is_valid_for_field(kinds_field(alloc, name)?))
 }
 
 #[test]
@@ -80,8 +85,7 @@ fn fields_take_what_fits(rt: HostRuntime) -> Result<(), Fail> {
 
 /// Whether the kind of the closed enum takes the number.
 fn enum_takes(alloc: Global, number: i32) -> Result<bool, Fail> {
-    let closed = kinds_kind(&kinds_pool(alloc)?, "e")?;
-    Ok(Value::EnumNumber(number).is_valid(&closed))
+    Ok(Value::EnumNumber(number).is_valid(kinds_kind(alloc, "e")?))
 }
 
 /// A value of one kind, by that kind alone.
@@ -91,16 +95,15 @@ fn kinds_take_what_fits(rt: HostRuntime) -> Result<(), Fail> {
     assert!(rt; MapKey::Bool(true).is_valid(&Kind::Bool));
     assert!(rt; !MapKey::I32(1).is_valid(&Kind::String));
     assert!(rt; !enum_takes(rt.alloc(), 7)?);
-    let list = list_of(rt.alloc(), Value::I32(1))?;
-    assert!(rt; !list.is_valid(&Kind::Int32));
+    assert!(rt; !list_of(rt.alloc(), Value::I32(1))?.is_valid(&Kind::Int32));
     Ok(())
 }
 
 /// The extension is of sint64.
 #[test]
 fn extensions_take_what_fits(rt: HostRuntime) -> Result<(), Fail> {
-    let extension = kinds_extension(&kinds_pool(rt.alloc())?)?;
-    assert!(rt; Value::I64(1).is_valid_for_extension(&extension));
-    assert!(rt; !Value::I32(1).is_valid_for_extension(&extension));
+    let extension = kinds_extension(rt.alloc())?;
+    assert!(rt; Value::I64(1).is_valid_for_extension(extension));
+    assert!(rt; !Value::I32(1).is_valid_for_extension(extension));
     Ok(())
 }

@@ -1,7 +1,8 @@
 //! Each variant by its accessors.
 
-use crate::types::{equals_its_copy, insert, message_of, named_type, text_key, text_of};
-use prost_reflect::{DynamicMessage, MapKey, Value, builtin_pool};
+use crate::types::{equals_its_copy, insert, message_value, text_key, text_of};
+use prost_reflect::{MapKey, Value, builtin_pool};
+use prost_reflect_samples::leaked;
 use std::alloc::{AllocError, Global};
 use std::collections::BTreeMap;
 use std::mem::size_of;
@@ -74,21 +75,21 @@ fn is_overwritten(value: &Value) -> bool {
 }
 
 /// Whether the scalar is written, and read as what was written.
-fn is_written_and_read(mut value: Value) -> bool {
-    overwrite_scalar(&mut value);
-    is_overwritten(&value)
+fn is_written_and_read(value: &mut Value) -> bool {
+    overwrite_scalar(value);
+    is_overwritten(value)
 }
 
 #[test]
 fn a_scalar_is_written_and_read(rt: HostRuntime) {
-    assert!(rt; is_written_and_read(Value::Bool(false)));
-    assert!(rt; is_written_and_read(Value::I32(0)));
-    assert!(rt; is_written_and_read(Value::I64(0)));
-    assert!(rt; is_written_and_read(Value::U32(0)));
-    assert!(rt; is_written_and_read(Value::U64(0)));
-    assert!(rt; is_written_and_read(Value::F32(0)));
-    assert!(rt; is_written_and_read(Value::F64(0)));
-    assert!(rt; is_written_and_read(Value::EnumNumber(0)));
+    assert!(rt; is_written_and_read(&mut Value::Bool(false)));
+    assert!(rt; is_written_and_read(&mut Value::I32(0)));
+    assert!(rt; is_written_and_read(&mut Value::I64(0)));
+    assert!(rt; is_written_and_read(&mut Value::U32(0)));
+    assert!(rt; is_written_and_read(&mut Value::U64(0)));
+    assert!(rt; is_written_and_read(&mut Value::F32(0)));
+    assert!(rt; is_written_and_read(&mut Value::F64(0)));
+    assert!(rt; is_written_and_read(&mut Value::EnumNumber(0)));
 }
 
 /// Whether the value is as `fill` leaves an empty one.
@@ -121,14 +122,18 @@ fn a_collection_is_written_and_read(rt: HostRuntime) -> Result<(), Fail> {
     assert!(rt; is_filled_and_copied(Value::Bytes(Vec::new(alloc)))?);
     assert!(rt; is_filled_and_copied(Value::List(Vec::new(alloc)))?);
     assert!(rt; is_filled_and_copied(Value::Map(BTreeMap::new(alloc)))?);
-    assert!(rt; is_filled_and_copied(message_of(alloc, &builtin_pool(alloc)?, "builtin.Kept")?)?);
+    assert!(rt; is_filled_and_copied(kept(alloc, &[])?)?);
     Ok(())
 }
 
 /// The message of `Kept` that the bytes mean, as a value.
 fn kept(alloc: Global, bytes: &[u8]) -> Result<Value, Fail> {
-    let descriptor = named_type(&builtin_pool(alloc)?, "builtin.Kept")?;
-    Ok(Value::Message(DynamicMessage::decode(alloc, descriptor, bytes)?))
+    message_value(
+        alloc,
+        leaked(alloc, builtin_pool(alloc)?)?,
+        "builtin.Kept",
+        bytes,
+    )
 }
 
 /// Whether the value becomes the empty one where it is filled.

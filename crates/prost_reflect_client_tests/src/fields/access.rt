@@ -2,8 +2,10 @@
 
 use crate::fields::types::{decoded, empty, is_message, worked_field, worked_type};
 use prost_reflect::{DecodeError, DynamicMessage, ExtensionDescriptor, FieldDescriptor, Value};
+use prost_reflect_samples::leaked;
 use std::alloc::{AllocError, Global};
 use std::borrow::Cow;
+use std::mem;
 use std::test::Fail;
 
 /// A message type, the digits of a message, the number of a field of the kind int32, whether the message has it, and its value;
@@ -274,9 +276,9 @@ fn follows_in_all_ways(
 ) -> Result<bool, Fail> {
     let (name, digits, _, _, _, _, _, _) = row;
     Ok(
-        follows(alloc, &mut decoded(alloc, name, digits)?, field, row)?
-            && follows_by_number(alloc, &mut decoded(alloc, name, digits)?, row)?
-            && follows_by_name(alloc, &mut decoded(alloc, name, digits)?, field.name(), row)?,
+        follows(alloc, decoded(alloc, name, digits)?, field, row)?
+            && follows_by_number(alloc, decoded(alloc, name, digits)?, row)?
+            && follows_by_name(alloc, decoded(alloc, name, digits)?, field.name(), row)?,
     )
 }
 
@@ -284,7 +286,7 @@ fn follows_in_all_ways(
 fn fields_are_asked_set_and_taken(rt: HostRuntime) -> Result<(), Fail> {
     for row in &FIELDS {
         let field = worked_field(rt.alloc(), row.0, row.2)?;
-        assert!(rt; follows_in_all_ways(rt.alloc(), &field, row)?);
+        assert!(rt; follows_in_all_ways(rt.alloc(), field, row)?);
     }
     Ok(())
 }
@@ -299,7 +301,7 @@ fn drops_default(
         sets(message, foo, 0)
             && is_message(alloc, message, "package.MyMessage", "0800")?
             && takes(message, foo, 0, false)
-            && *message == empty(alloc, "package.MyMessage")?,
+            && *message == *empty(alloc, "package.MyMessage")?,
     )
 }
 
@@ -307,15 +309,21 @@ fn drops_default(
 #[test]
 fn a_default_that_is_set_is_not_taken(rt: HostRuntime) -> Result<(), Fail> {
     let foo = worked_field(rt.alloc(), "package.MyMessage", 1)?;
-    let mut message = empty(rt.alloc(), "package.MyMessage")?;
-    assert!(rt; drops_default(rt.alloc(), &mut message, &foo)?);
+    let message = empty(rt.alloc(), "package.MyMessage")?;
+    assert!(rt; drops_default(rt.alloc(), message, foo)?);
     Ok(())
 }
 
 /// The extension of a number of the message type of a name in `worked`.
-fn worked_extension(alloc: Global, name: &str, number: u32) -> Result<ExtensionDescriptor, Fail> {
-    let found = worked_type(alloc, name)?.get_extension(number)?;
-    Ok(found.ok_or("no such extension")?)
+fn worked_extension(
+    alloc: Global,
+    name: &str,
+    number: u32,
+) -> Result<&'static ExtensionDescriptor, Fail> {
+    let found = worked_type(alloc, name)?
+        .get_extension(number)?
+        .ok_or("no such extension")?;
+    Ok(leaked(alloc, found)?)
 }
 
 /// Whether the message is what the row says, where its extension is asked and taken.
@@ -368,10 +376,10 @@ fn extension_follows(
     extension: &ExtensionDescriptor,
     row: &ExtensionRow,
 ) -> Result<bool, Fail> {
-    let mut message = decoded(alloc, row.0, row.1)?;
+    let message = decoded(alloc, row.0, row.1)?;
     Ok(
-        takes_extension(alloc, &mut message, extension, row)?
-            && sets_extension(alloc, &mut message, extension, row)?,
+        takes_extension(alloc, message, extension, row)?
+            && sets_extension(alloc, message, extension, row)?,
     )
 }
 
@@ -379,7 +387,7 @@ fn extension_follows(
 fn extensions_are_asked_set_and_taken(rt: HostRuntime) -> Result<(), Fail> {
     for row in &EXTENSIONS {
         let extension = worked_extension(rt.alloc(), row.0, row.2)?;
-        assert!(rt; extension_follows(rt.alloc(), &extension, row)?);
+        assert!(rt; extension_follows(rt.alloc(), extension, row)?);
     }
     Ok(())
 }
@@ -401,8 +409,8 @@ fn lends_extension(
 #[test]
 fn an_extension_is_lent_for_writing(rt: HostRuntime) -> Result<(), Fail> {
     let extension = worked_extension(rt.alloc(), "b.X", 100)?;
-    let mut message = decoded(rt.alloc(), "b.X", "")?;
-    assert!(rt; lends_extension(rt.alloc(), &mut message, &extension)?);
+    let message = decoded(rt.alloc(), "b.X", "")?;
+    assert!(rt; lends_extension(rt.alloc(), message, extension)?);
     Ok(())
 }
 
@@ -448,31 +456,31 @@ fn replaces(
 fn a_member_that_is_lent_replaces_another(rt: HostRuntime) -> Result<(), Fail> {
     let a = worked_field(rt.alloc(), "a.Q", 1)?;
     let b = worked_field(rt.alloc(), "a.Q", 2)?;
-    let mut message = empty(rt.alloc(), "a.Q")?;
-    assert!(rt; replaces(rt.alloc(), &mut message, &a, &b)?);
+    let message = empty(rt.alloc(), "a.Q")?;
+    assert!(rt; replaces(rt.alloc(), message, a, b)?);
     Ok(())
 }
 
-/// A message of `MyMessage` whose field `nested` is the message.
-fn around(
+/// Puts an empty message of the same type around the message, in its place. Whether the field
+/// `nested` takes the message.
+fn wraps(
     alloc: Global,
+    message: &mut DynamicMessage,
     nested: &FieldDescriptor,
-    message: DynamicMessage,
-) -> Result<DynamicMessage, Fail> {
-    let mut outer = decoded(alloc, "package.MyMessage", "")?;
-    if !outer.owns_field(nested) {
-        return Err(Fail::from("a field of another type"));
-    }
-    outer.try_set_field(nested, Value::Message(message))?;
-    Ok(outer)
+) -> Result<bool, AllocError> {
+    let outer = DynamicMessage::new(alloc, message.descriptor()?);
+    let inner = mem::replace(message, outer);
+    Ok(message.owns_field(nested) && message.try_set_field(nested, Value::Message(inner)).is_ok())
 }
 
 /// A message of `MyMessage` in so many others, each in the field `nested`.
-fn nested(alloc: Global, levels: u32) -> Result<DynamicMessage, Fail> {
+fn nested(alloc: Global, levels: u32) -> Result<&'static mut DynamicMessage, Fail> {
     let field = worked_field(alloc, "package.MyMessage", 3)?;
-    let mut message = decoded(alloc, "package.MyMessage", "")?;
+    let message = decoded(alloc, "package.MyMessage", "")?;
     for _ in 0..levels {
-        message = around(alloc, &field, message)?;
+        if !wraps(alloc, message, field)? {
+            return Err(Fail::from("a message that the field does not take"));
+        }
     }
     Ok(message)
 }
@@ -487,9 +495,9 @@ fn is_refused(
     if !message.is_encodable() {
         return Ok(false);
     }
-    let bytes = message.encode_to_vec(alloc)?;
-    let read = DynamicMessage::decode(alloc, message.descriptor()?, bytes.as_slice());
-    Ok(bytes.len() == length && read.err() == fault)
+    let bytes = leaked(alloc, message.encode_to_vec(alloc)?)?;
+    let refusal = DynamicMessage::decode(alloc, message.descriptor()?, bytes.as_slice()).err();
+    Ok(bytes.len() == length && refusal == fault)
 }
 
 /// Messages that were made by hand nest deeper than those that are read, and are written.
@@ -497,7 +505,7 @@ fn is_refused(
 fn what_is_written_may_nest_deeper(rt: HostRuntime) -> Result<(), Fail> {
     for (levels, length) in [(100, 236), (150, 386), (1000, 2936)] {
         let fault = (levels > 100).then_some(DecodeError::Depth);
-        assert!(rt; is_refused(rt.alloc(), &nested(rt.alloc(), levels)?, length, fault)?);
+        assert!(rt; is_refused(rt.alloc(), nested(rt.alloc(), levels)?, length, fault)?);
     }
     Ok(())
 }

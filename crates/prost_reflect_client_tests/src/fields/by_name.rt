@@ -35,36 +35,35 @@ fn has_f1_alone(alloc: Global, message: &DynamicMessage) -> Result<bool, AllocEr
 #[test]
 fn fields_are_asked_by_name(rt: HostRuntime) -> Result<(), Fail> {
     let message = choices(rt.alloc(), BYTES)?;
-    assert!(rt; has_f1_alone(rt.alloc(), &message)?);
+    assert!(rt; has_f1_alone(rt.alloc(), message)?);
     Ok(())
 }
 
 /// Whether `f1` is taken by its name, and `f12` stays where it is cleared by its name.
 fn gives_f1(alloc: Global, message: &mut DynamicMessage) -> Result<bool, Fail> {
     message.clear_field_by_name("f12");
-    Ok(
-        is_taken(&message.take_field_by_name("f1"), 5, true)
-            && *message == choices(alloc, &[0x60, 7])?,
-    )
+    let is_given = is_taken(&message.take_field_by_name("f1"), 5, true);
+    Ok(is_given && *message == *choices(alloc, &[0x60, 7])?)
 }
 
 #[test]
 fn a_field_is_taken_by_name(rt: HostRuntime) -> Result<(), Fail> {
-    let mut message = choices(rt.alloc(), BYTES)?;
-    assert!(rt; gives_f1(rt.alloc(), &mut message)?);
+    let message = choices(rt.alloc(), BYTES)?;
+    assert!(rt; gives_f1(rt.alloc(), message)?);
     Ok(())
 }
 
 /// Whether nothing is taken by the name of a field that was cleared, or of an extension.
 fn gives_nothing(message: &mut DynamicMessage) -> bool {
     message.clear_field_by_name("f1");
-    message.take_field_by_name("f1").is_none() && message.take_field_by_name("f12").is_none()
+    let is_cleared = message.take_field_by_name("f1").is_none();
+    is_cleared && message.take_field_by_name("f12").is_none()
 }
 
 #[test]
 fn a_field_is_cleared_by_name(rt: HostRuntime) -> Result<(), Fail> {
-    let mut message = choices(rt.alloc(), BYTES)?;
-    assert!(rt; gives_nothing(&mut message));
+    let message = choices(rt.alloc(), BYTES)?;
+    assert!(rt; gives_nothing(message));
     Ok(())
 }
 
@@ -77,15 +76,15 @@ fn ignores_number(alloc: Global, message: &mut DynamicMessage, number: u32) -> R
             && message.take_field_by_number(number).is_none()
             && message.get_field_by_number(alloc, number)?.is_none()
             && message.set_field_by_number(number, Value::I32(5)).is_ok()
-            && *message == my_message(alloc, FIVE)?,
+            && *message == *my_message(alloc, FIVE)?,
     )
 }
 
 /// No field has the number 42.
 #[test]
 fn a_number_of_no_field_changes_nothing(rt: HostRuntime) -> Result<(), Fail> {
-    let mut message = my_message(rt.alloc(), FIVE)?;
-    assert!(rt; ignores_number(rt.alloc(), &mut message, 42)?);
+    let message = my_message(rt.alloc(), FIVE)?;
+    assert!(rt; ignores_number(rt.alloc(), message, 42)?);
     Ok(())
 }
 
@@ -98,15 +97,15 @@ fn ignores_name(alloc: Global, message: &mut DynamicMessage, name: &str) -> Resu
             && message.take_field_by_name(name).is_none()
             && message.get_field_by_name(alloc, name)?.is_none()
             && message.set_field_by_name(name, Value::I32(5)).is_ok()
-            && *message == my_message(alloc, FIVE)?,
+            && *message == *my_message(alloc, FIVE)?,
     )
 }
 
 /// No field has the name.
 #[test]
 fn a_name_of_no_field_changes_nothing(rt: HostRuntime) -> Result<(), Fail> {
-    let mut message = my_message(rt.alloc(), FIVE)?;
-    assert!(rt; ignores_name(rt.alloc(), &mut message, "notfound")?);
+    let message = my_message(rt.alloc(), FIVE)?;
+    assert!(rt; ignores_name(rt.alloc(), message, "notfound")?);
     Ok(())
 }
 
@@ -114,12 +113,12 @@ fn a_name_of_no_field_changes_nothing(rt: HostRuntime) -> Result<(), Fail> {
 fn lends_both(alloc: Global, message: &mut DynamicMessage) -> Result<bool, Fail> {
     write(message.get_field_by_number_mut(alloc, 1)?, 7);
     write(message.get_field_by_name_mut(alloc, "bar")?, 66);
-    Ok(*message == my_message(alloc, &[0x08, 7, 0x10, 66])?)
+    Ok(*message == *my_message(alloc, &[0x08, 7, 0x10, 66])?)
 }
 
 #[test]
 fn a_field_is_lent_for_writing(rt: HostRuntime) -> Result<(), Fail> {
-    let mut message = my_message(rt.alloc(), FIVE)?;
-    assert!(rt; lends_both(rt.alloc(), &mut message)?);
+    let message = my_message(rt.alloc(), FIVE)?;
+    assert!(rt; lends_both(rt.alloc(), message)?);
     Ok(())
 }

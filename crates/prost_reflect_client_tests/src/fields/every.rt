@@ -5,7 +5,7 @@ use prost_reflect::{
     DynamicMessage, ExtensionDescriptor, FieldDescriptor, MessageDescriptor, Value,
 };
 use prost_reflect_samples::every::{Row, extensions, fields};
-use prost_reflect_samples::sets;
+use prost_reflect_samples::{leaked, sets};
 use std::alloc::Global;
 use std::borrow::Cow;
 use std::test::Fail;
@@ -25,15 +25,16 @@ fn goes_by_number(
     empty: &DynamicMessage,
     number: u32,
 ) -> Result<bool, Fail> {
-    let mut message = whole.clone()?;
+    let message = leaked(alloc, whole.clone()?)?;
     let had = message.has_field_by_number(number);
     let Some(value) = message.take_field_by_number(number) else {
         return Ok(false);
     };
-    let is_taken = message == *empty && !message.has_field_by_number(number);
+    let value: &Value = leaked(alloc, value)?;
+    let is_taken = *message == *empty && !message.has_field_by_number(number);
     message.try_set_field_by_number(number, value.clone()?)?;
-    let is_set = message == *whole && is_lent(&message.get_field_by_number(alloc, number)?, &value);
-    Ok(had && is_taken && is_set && *message.get_field_by_number_mut(alloc, number)? == value)
+    let is_set = *message == *whole && is_lent(&message.get_field_by_number(alloc, number)?, value);
+    Ok(had && is_taken && is_set && *message.get_field_by_number_mut(alloc, number)? == *value)
 }
 
 /// Whether the field of the name is had and shown, and is taken, set and lent by its name.
@@ -43,15 +44,16 @@ fn goes_by_name(
     empty: &DynamicMessage,
     name: &str,
 ) -> Result<bool, Fail> {
-    let mut message = whole.clone()?;
+    let message = leaked(alloc, whole.clone()?)?;
     let had = message.has_field_by_name(name);
     let Some(value) = message.take_field_by_name(name) else {
         return Ok(false);
     };
-    let is_taken = message == *empty && !message.has_field_by_name(name);
+    let value: &Value = leaked(alloc, value)?;
+    let is_taken = *message == *empty && !message.has_field_by_name(name);
     message.try_set_field_by_name(name, value.clone()?)?;
-    let is_set = message == *whole && is_lent(&message.get_field_by_name(alloc, name)?, &value);
-    Ok(had && is_taken && is_set && *message.get_field_by_name_mut(alloc, name)? == value)
+    let is_set = *message == *whole && is_lent(&message.get_field_by_name(alloc, name)?, value);
+    Ok(had && is_taken && is_set && *message.get_field_by_name_mut(alloc, name)? == *value)
 }
 
 /// Whether the field is had and shown, and is taken, set and lent by its descriptor.
@@ -61,17 +63,18 @@ fn goes_by_descriptor(
     empty: &DynamicMessage,
     field: &FieldDescriptor,
 ) -> Result<bool, Fail> {
-    let mut message = whole.clone()?;
+    let message = leaked(alloc, whole.clone()?)?;
     if !message.owns_field(field) || !message.has_field(field) {
         return Ok(false);
     }
     let Some(value) = message.take_field(field) else {
         return Ok(false);
     };
-    let is_taken = message == *empty && !message.has_field(field);
+    let value: &Value = leaked(alloc, value)?;
+    let is_taken = *message == *empty && !message.has_field(field);
     message.try_set_field(field, value.clone()?)?;
-    let is_set = message == *whole && *message.get_field(alloc, field)? == value;
-    Ok(is_taken && is_set && *message.get_field_mut(alloc, field)? == value)
+    let is_set = *message == *whole && *message.get_field(alloc, field)? == *value;
+    Ok(is_taken && is_set && *message.get_field_mut(alloc, field)? == *value)
 }
 
 /// Whether the message lends the value of its extension for writing.
@@ -91,50 +94,49 @@ fn goes_by_extension(
     empty: &DynamicMessage,
     extension: &ExtensionDescriptor,
 ) -> Result<bool, Fail> {
-    let mut message = whole.clone()?;
+    let message = leaked(alloc, whole.clone()?)?;
     if !message.owns_extension(extension) || !message.has_extension(extension) {
         return Ok(false);
     }
     let Some(value) = message.take_extension(extension) else {
         return Ok(false);
     };
-    let is_taken = message == *empty && !message.has_extension(extension);
+    let value: &Value = leaked(alloc, value)?;
+    let is_taken = *message == *empty && !message.has_extension(extension);
     if value.is_valid_for_extension(extension) {
         message.set_extension(extension, value.clone()?)?;
     }
-    let is_set = message == *whole && *message.get_extension(alloc, extension)? == value;
-    Ok(is_taken && is_set && lends(alloc, &mut message, extension, &value)?)
+    let is_set = *message == *whole && *message.get_extension(alloc, extension)? == *value;
+    Ok(is_taken && is_set && lends(alloc, message, extension, value)?)
 }
 
 /// Whether the row's field goes in each way.
 fn field_goes(alloc: Global, every: &MessageDescriptor, row: &Row) -> Result<bool, Fail> {
-    let whole = DynamicMessage::decode(alloc, every.clone()?, row.1)?;
-    let empty = DynamicMessage::new(alloc, every.clone()?);
-    match every.get_field(row.0)? {
-        Some(field) => Ok(
-            goes_by_number(alloc, &whole, &empty, row.0)?
-                && goes_by_name(alloc, &whole, &empty, field.name())?
-                && goes_by_descriptor(alloc, &whole, &empty, &field)?,
-        ),
-        None => Ok(false),
-    }
+    let whole = leaked(alloc, DynamicMessage::decode(alloc, every.clone()?, row.1)?)?;
+    let empty = leaked(alloc, DynamicMessage::new(alloc, every.clone()?))?;
+    let found = every.get_field(row.0)?.ok_or("no such field")?;
+    let field = leaked(alloc, found)?;
+    Ok(
+        goes_by_number(alloc, whole, empty, row.0)?
+            && goes_by_name(alloc, whole, empty, field.name())?
+            && goes_by_descriptor(alloc, whole, empty, field)?,
+    )
 }
 
 /// Whether the row's extension goes so.
 fn extension_goes(alloc: Global, every: &MessageDescriptor, row: &Row) -> Result<bool, Fail> {
-    let whole = DynamicMessage::decode(alloc, every.clone()?, row.1)?;
-    let empty = DynamicMessage::new(alloc, every.clone()?);
-    match every.get_extension(row.0)? {
-        Some(extension) => goes_by_extension(alloc, &whole, &empty, &extension),
-        None => Ok(false),
-    }
+    let whole = leaked(alloc, DynamicMessage::decode(alloc, every.clone()?, row.1)?)?;
+    let empty = leaked(alloc, DynamicMessage::new(alloc, every.clone()?))?;
+    let found = every.get_extension(row.0)?.ok_or("no such extension")?;
+    let extension = leaked(alloc, found)?;
+    goes_by_extension(alloc, whole, empty, extension)
 }
 
 #[test]
 fn a_field_of_each_kind_goes_in_each_way(rt: HostRuntime) -> Result<(), Fail> {
     let every = message_type(rt.alloc(), sets::every(), "e.Every")?;
     for row in fields() {
-        assert!(rt; field_goes(rt.alloc(), &every, row)?, "{}", row.0);
+        assert!(rt; field_goes(rt.alloc(), every, row)?, "{}", row.0);
     }
     Ok(())
 }
@@ -143,7 +145,7 @@ fn a_field_of_each_kind_goes_in_each_way(rt: HostRuntime) -> Result<(), Fail> {
 fn an_extension_of_each_kind_goes(rt: HostRuntime) -> Result<(), Fail> {
     let every = message_type(rt.alloc(), sets::every(), "e.Every")?;
     for row in extensions() {
-        assert!(rt; extension_goes(rt.alloc(), &every, row)?, "{}", row.0);
+        assert!(rt; extension_goes(rt.alloc(), every, row)?, "{}", row.0);
     }
     Ok(())
 }

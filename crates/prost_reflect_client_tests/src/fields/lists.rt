@@ -2,7 +2,7 @@
 
 use crate::fields::types::{choices, empty, message_of};
 use prost_reflect::{DynamicMessage, Present, TakenExtensions, TakenFields, Value};
-use prost_reflect_samples::sets;
+use prost_reflect_samples::{leaked, sets};
 use std::alloc::{AllocError, Global};
 use std::test::Fail;
 
@@ -73,15 +73,15 @@ fn gives_all_fields(
     Ok(
         has_fields(message, expected)?
             && are_fields(message.take_fields(alloc)?, expected)
-            && *message == empty(alloc, "package.MyMessage")?,
+            && *message == *empty(alloc, "package.MyMessage")?,
     )
 }
 
 #[test]
 fn all_fields_are_taken(rt: HostRuntime) -> Result<(), Fail> {
     for row in ROWS {
-        let mut message = message_of(rt.alloc(), sets::worked(), "package.MyMessage", row.0)?;
-        assert!(rt; gives_all_fields(rt.alloc(), &mut message, row.1)?);
+        let message = message_of(rt.alloc(), sets::worked(), "package.MyMessage", row.0)?;
+        assert!(rt; gives_all_fields(rt.alloc(), message, row.1)?);
     }
     Ok(())
 }
@@ -102,7 +102,7 @@ fn lists_apart(alloc: Global, message: &DynamicMessage) -> Result<bool, AllocErr
 #[test]
 fn fields_and_extensions_are_listed_apart(rt: HostRuntime) -> Result<(), Fail> {
     let message = choices(rt.alloc(), MIXED)?;
-    assert!(rt; lists_apart(rt.alloc(), &message)?);
+    assert!(rt; lists_apart(rt.alloc(), message)?);
     Ok(())
 }
 
@@ -125,10 +125,10 @@ fn add_line(lines: &mut String, present: &Present<'_>) -> Result<(), AllocError>
 }
 
 /// The lines of all that the message has.
-fn lines_of(alloc: Global, message: &DynamicMessage) -> Result<String, AllocError> {
-    let mut lines = String::new(alloc);
+fn lines_of(alloc: Global, message: &DynamicMessage) -> Result<&'static String, AllocError> {
+    let lines = leaked(alloc, String::new(alloc))?;
     for item in message.present() {
-        add_line(&mut lines, &item?)?;
+        add_line(lines, &item?)?;
     }
     Ok(lines)
 }
@@ -150,7 +150,7 @@ static PRESENT: &[(&[u8], &str)] = &[
 #[test]
 fn all_that_is_present_is_listed(rt: HostRuntime) -> Result<(), Fail> {
     for row in PRESENT {
-        let lines = lines_of(rt.alloc(), &choices(rt.alloc(), row.0)?)?;
+        let lines = lines_of(rt.alloc(), choices(rt.alloc(), row.0)?)?;
         assert!(rt; lines.as_str() == row.1, "{lines}");
     }
     Ok(())
@@ -160,7 +160,7 @@ fn all_that_is_present_is_listed(rt: HostRuntime) -> Result<(), Fail> {
 fn gives_extensions(alloc: Global, message: &mut DynamicMessage) -> Result<bool, Fail> {
     Ok(
         are_extensions(message.take_extensions(alloc)?, &[(12, 7)])
-            && *message == choices(alloc, &[0x08, 5, 0x28, 7, 0xa0, 1, 3])?,
+            && *message == *choices(alloc, &[0x08, 5, 0x28, 7, 0xa0, 1, 3])?,
     )
 }
 
@@ -168,19 +168,19 @@ fn gives_extensions(alloc: Global, message: &mut DynamicMessage) -> Result<bool,
 fn gives_fields(alloc: Global, message: &mut DynamicMessage) -> Result<bool, Fail> {
     Ok(
         are_fields(message.take_fields(alloc)?, &[(1, 5)])
-            && *message == choices(alloc, &[0x28, 7, 0x60, 7, 0xa0, 1, 3])?,
+            && *message == *choices(alloc, &[0x28, 7, 0x60, 7, 0xa0, 1, 3])?,
     )
 }
 
 #[test]
 fn what_is_not_taken_stays(rt: HostRuntime) -> Result<(), Fail> {
-    assert!(rt; gives_extensions(rt.alloc(), &mut choices(rt.alloc(), MIXED)?)?);
-    assert!(rt; gives_fields(rt.alloc(), &mut choices(rt.alloc(), MIXED)?)?);
+    assert!(rt; gives_extensions(rt.alloc(), choices(rt.alloc(), MIXED)?)?);
+    assert!(rt; gives_fields(rt.alloc(), choices(rt.alloc(), MIXED)?)?);
     Ok(())
 }
 
 /// The message of `Foo` that the bytes mean.
-fn foo(alloc: Global, bytes: &[u8]) -> Result<DynamicMessage, Fail> {
+fn foo(alloc: Global, bytes: &[u8]) -> Result<&'static mut DynamicMessage, Fail> {
     message_of(alloc, sets::worked(), "b.Foo", bytes)
 }
 
@@ -190,16 +190,16 @@ fn gives_no_lists(alloc: Global, message: &mut DynamicMessage) -> Result<bool, F
         has_fields(message, &[])?
             && has_extensions(message, &[])?
             && are_extensions(message.take_extensions(alloc)?, &[])
-            && *message == foo(alloc, b"\x0a\x00")?
+            && *message == *foo(alloc, b"\x0a\x00")?
             && are_fields(message.take_fields(alloc)?, &[])
-            && *message == empty(alloc, "b.Foo")?,
+            && *message == *empty(alloc, "b.Foo")?,
     )
 }
 
 /// A packed record without numbers stores an empty list, which is no value and is taken away with the others.
 #[test]
 fn empty_lists_are_not_answered(rt: HostRuntime) -> Result<(), Fail> {
-    let mut message = foo(rt.alloc(), b"\x0a\x00\xa2\x06\x00")?;
-    assert!(rt; gives_no_lists(rt.alloc(), &mut message)?);
+    let message = foo(rt.alloc(), b"\x0a\x00\xa2\x06\x00")?;
+    assert!(rt; gives_no_lists(rt.alloc(), message)?);
     Ok(())
 }

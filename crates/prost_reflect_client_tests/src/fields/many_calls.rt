@@ -5,6 +5,7 @@ use crate::fields::types::message_of;
 use crate::fields::unknowns::is_varint;
 use prost_reflect::{DynamicMessage, FieldDescriptor, SetFieldError, Value};
 use prost_reflect_samples::calls::{Call, calls};
+use prost_reflect_samples::leaked;
 use std::alloc::{AllocError, Global};
 use std::test::Fail;
 
@@ -19,10 +20,21 @@ static SPREAD: &[u8] =
     \xac\x02 \x01(\x05H\x00\x12\x0d\x0a\x04f330\x18\xca\x02 \x01(\x05\x12\x0d\x0a\x04f360\x18\xe8\
     \x02 \x01(\x05B\x07\x0a\x05firstB\x08\x0a\x06secondb\x06proto3";
 
+/// The fields of the message for the numbers from 1 to 12, in turn.
+fn fields_of(alloc: Global, message: &DynamicMessage) -> Result<&'static [FieldDescriptor], Fail> {
+    let descriptor = leaked(alloc, message.descriptor()?)?;
+    let fields: &'static mut Vec<FieldDescriptor> = leaked(alloc, Vec::new(alloc))?;
+    for number in 1..13_u32 {
+        let found = descriptor.get_field(number.wrapping_mul(30))?;
+        fields.push(found.ok_or("no such field")?)?;
+    }
+    Ok(fields.as_slice())
+}
+
 /// The field for a number from 1 to 12.
-fn field_for(message: &DynamicMessage, number: u32) -> Result<FieldDescriptor, Fail> {
-    let found = message.descriptor()?.get_field(number.wrapping_mul(30))?;
-    Ok(found.ok_or("no such field")?)
+fn field_for(fields: &[FieldDescriptor], number: u32) -> Result<&FieldDescriptor, Fail> {
+    let place = (number as usize).wrapping_sub(1);
+    Ok(fields.get(place).ok_or("no such field")?)
 }
 
 /// A value from 0 to 4.
@@ -162,12 +174,17 @@ impl Table {
 }
 
 /// Whether the message has at each field what the table says, and lends what is stored.
-fn agrees(alloc: Global, message: &DynamicMessage, table: &Table) -> Result<bool, Fail> {
+fn agrees(
+    alloc: Global,
+    message: &DynamicMessage,
+    fields: &[FieldDescriptor],
+    table: &Table,
+) -> Result<bool, Fail> {
     for number in 1..13_u32 {
         let stored = table.values[number as usize % 13];
         let had = table.had(number).is_some();
         let expected = (had, stored.unwrap_or(0), stored.is_some());
-        if !is_asked(alloc, message, &field_for(message, number)?, expected)? {
+        if !is_asked(alloc, message, field_for(fields, number)?, expected)? {
             return Ok(false);
         }
     }
@@ -178,12 +195,13 @@ fn agrees(alloc: Global, message: &DynamicMessage, table: &Table) -> Result<bool
 fn is_made(
     alloc: Global,
     message: &mut DynamicMessage,
+    fields: &[FieldDescriptor],
     table: &mut Table,
     call: Call,
 ) -> Result<bool, Fail> {
     let expected = table.apply(call);
-    let field = field_for(message, call.number())?;
-    Ok(gives(alloc, message, &field, call, expected)? && agrees(alloc, message, table)?)
+    let field = field_for(fields, call.number())?;
+    Ok(gives(alloc, message, field, call, expected)? && agrees(alloc, message, fields, table)?)
 }
 
 /// How many calls agree with a table, up to the first that does not.
@@ -192,9 +210,10 @@ fn agreeing_calls(
     message: &mut DynamicMessage,
     calls: &[Call],
 ) -> Result<usize, Fail> {
+    let fields = fields_of(alloc, message)?;
     let mut table = Table { values: [None; 13] };
     for (step, call) in calls.iter().enumerate() {
-        if !is_made(alloc, message, &mut table, *call)? {
+        if !is_made(alloc, message, fields, &mut table, *call)? {
             return Ok(step);
         }
     }
@@ -213,8 +232,8 @@ fn present(message: &DynamicMessage, numbers: &[u32]) -> u32 {
 }
 
 /// So many unknown records, which are varints of the odd numbers from 17 on: 0, 1 and so on.
-fn unknown_records(alloc: Global, count: u32) -> Result<Vec<u8>, AllocError> {
-    let mut bytes = Vec::new(alloc);
+fn unknown_records(alloc: Global, count: u32) -> Result<&'static [u8], AllocError> {
+    let bytes: &'static mut Vec<u8> = leaked(alloc, Vec::new(alloc))?;
     for step in 0..count {
         let key = (step % 200 * 2 + 17) * 8;
         let record = [
@@ -224,7 +243,7 @@ fn unknown_records(alloc: Global, count: u32) -> Result<Vec<u8>, AllocError> {
         ];
         bytes.extend_from_slice(&record)?;
     }
-    Ok(bytes)
+    Ok(bytes.as_slice())
 }
 
 /// How many unknown fields the message has, if they are those of such records.
@@ -250,12 +269,12 @@ fn is_left(message: &DynamicMessage, count: u32) -> bool {
 #[test]
 fn calls_on_a_message_agree_with_a_table(rt: HostRuntime) -> Result<(), Fail> {
     let alloc = rt.alloc();
-    let calls = calls(alloc)?;
+    let calls = leaked(alloc, calls(alloc)?)?;
     for count in [0, 200] {
         let records = unknown_records(alloc, count)?;
-        let mut message = message_of(alloc, SPREAD, "Spread", records.as_slice())?;
-        assert_eq!(rt; agreeing_calls(alloc, &mut message, calls.as_slice())?, 500);
-        assert!(rt; is_left(&message, count));
+        let message = message_of(alloc, SPREAD, "Spread", records)?;
+        assert_eq!(rt; agreeing_calls(alloc, message, calls.as_slice())?, 500);
+        assert!(rt; is_left(message, count));
     }
     Ok(())
 }

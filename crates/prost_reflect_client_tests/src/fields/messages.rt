@@ -5,18 +5,28 @@ use crate::fields::types::{choices, is_written};
 use prost_reflect::{
     DecodeError, DynamicMessage, MessageDescriptor, PresentNumber, Value, builtin_pool,
 };
+use prost_reflect_samples::leaked;
 use std::alloc::Global;
 use std::test::Fail;
 
 /// The built-in message type of a name.
-fn builtin(alloc: Global, name: &str) -> Result<MessageDescriptor, Fail> {
-    let found = builtin_pool(alloc)?.get_message_by_name(name)?;
-    Ok(found.ok_or("no such message type")?)
+fn builtin(alloc: Global, name: &str) -> Result<&'static MessageDescriptor, Fail> {
+    let pool = leaked(alloc, builtin_pool(alloc)?)?;
+    let found = pool
+        .get_message_by_name(name)?
+        .ok_or("no such message type")?;
+    Ok(leaked(alloc, found)?)
 }
 
 /// The message that the bytes mean to the built-in type of a name.
-fn builtin_message(alloc: Global, name: &str, bytes: &[u8]) -> Result<DynamicMessage, Fail> {
-    Ok(DynamicMessage::decode(alloc, builtin(alloc, name)?, bytes)?)
+fn builtin_message(
+    alloc: Global,
+    name: &str,
+    bytes: &[u8],
+) -> Result<&'static mut DynamicMessage, Fail> {
+    let found = builtin(alloc, name)?;
+    let message = DynamicMessage::decode(alloc, found.clone()?, bytes)?;
+    Ok(leaked(alloc, message)?)
 }
 
 /// An unknown varint of the number 10, and 150 in the field 5.
@@ -28,17 +38,15 @@ static WRITTEN: &[u8] = &[0x28, 0x96, 1, 0x50, 3];
 /// Whether a field of the number 5 is there, and one unknown field of the number 10, and both are written.
 fn is_relayed(alloc: Global, message: &DynamicMessage) -> Result<bool, Fail> {
     let present = [PresentNumber::Field(5), PresentNumber::Unknown(10, 1)];
-    Ok(
-        message.present_numbers(alloc)?.as_slice() == present.as_slice()
-            && is_written(alloc, message, WRITTEN)?,
-    )
+    let are_present = message.present_numbers(alloc)?.as_slice() == present.as_slice();
+    Ok(are_present && is_written(alloc, message, WRITTEN)?)
 }
 
 /// The worked example of the README.
 #[test]
 fn a_message_is_relayed(rt: HostRuntime) -> Result<(), Fail> {
     let message = builtin_message(rt.alloc(), "builtin.Plain", b"\x50\x83\x00\x28\x96\x01")?;
-    assert!(rt; is_relayed(rt.alloc(), &message)?);
+    assert!(rt; is_relayed(rt.alloc(), message)?);
     Ok(())
 }
 
@@ -56,8 +64,8 @@ fn is_changed(alloc: Global, message: &mut DynamicMessage) -> Result<bool, Fail>
 /// The edit of the README, by the calls of the library.
 #[test]
 fn a_field_is_changed(rt: HostRuntime) -> Result<(), Fail> {
-    let mut message = builtin_message(rt.alloc(), "builtin.Plain", b"\x50\x83\x00\x28\x96\x01")?;
-    assert!(rt; is_changed(rt.alloc(), &mut message)?);
+    let message = builtin_message(rt.alloc(), "builtin.Plain", b"\x50\x83\x00\x28\x96\x01")?;
+    assert!(rt; is_changed(rt.alloc(), message)?);
     Ok(())
 }
 
@@ -66,8 +74,8 @@ fn is_appended(alloc: Global, message: &DynamicMessage) -> Result<bool, Fail> {
     if !message.is_encodable() {
         return Ok(false);
     }
-    let mut out = Vec::from_slice(alloc, &[7])?;
-    message.encode(&mut out)?;
+    let out = leaked(alloc, Vec::from_slice(alloc, &[7])?)?;
+    message.encode(out)?;
     Ok(out.as_slice() == [7, 0x28, 0x96, 1, 0x50, 3].as_slice())
 }
 
@@ -79,34 +87,35 @@ fn is_written_twice(alloc: Global, message: &DynamicMessage) -> Result<bool, Fai
 #[test]
 fn a_message_is_read_and_written(rt: HostRuntime) -> Result<(), Fail> {
     let message = builtin_message(rt.alloc(), "builtin.Kept", BYTES)?;
-    assert!(rt; is_written_twice(rt.alloc(), &message)?);
+    assert!(rt; is_written_twice(rt.alloc(), message)?);
     Ok(())
 }
 
 /// Whether the message of `Kept` is empty once it is cleared.
 fn is_emptied(alloc: Global, message: &mut DynamicMessage) -> Result<bool, Fail> {
     message.clear();
-    Ok(*message == DynamicMessage::new(alloc, builtin(alloc, "builtin.Kept")?))
+    let found = builtin(alloc, "builtin.Kept")?;
+    Ok(*message == DynamicMessage::new(alloc, found.clone()?))
 }
 
 /// Whether a copy equals the message of `Kept`, and is empty once it is cleared.
 fn is_copied(alloc: Global, message: &DynamicMessage) -> Result<bool, Fail> {
-    let mut copied = message.clone()?;
-    Ok(copied == *message && is_emptied(alloc, &mut copied)?)
+    let copied = leaked(alloc, message.clone()?)?;
+    Ok(*copied == *message && is_emptied(alloc, copied)?)
 }
 
 #[test]
 fn a_message_is_copied_and_emptied(rt: HostRuntime) -> Result<(), Fail> {
     let message = builtin_message(rt.alloc(), "builtin.Kept", BYTES)?;
-    assert!(rt; is_copied(rt.alloc(), &message)?);
+    assert!(rt; is_copied(rt.alloc(), message)?);
     Ok(())
 }
 
 #[test]
 fn a_fault_is_named(rt: HostRuntime) -> Result<(), Fail> {
     let descriptor = builtin(rt.alloc(), "builtin.Kept")?;
-    let read = DynamicMessage::decode(rt.alloc(), descriptor, &[0x28]);
-    assert_eq!(rt; read.err(), Some(DecodeError::Truncated));
+    let fault = DynamicMessage::decode(rt.alloc(), descriptor.clone()?, &[0x28]).err();
+    assert_eq!(rt; fault, Some(DecodeError::Truncated));
     Ok(())
 }
 
@@ -120,7 +129,7 @@ static RELAYED: [(&[u8], &[u8]); 3] = [
 #[test]
 fn an_undeclared_number_stays_and_clears_nothing(rt: HostRuntime) -> Result<(), Fail> {
     for (bytes, written) in &RELAYED {
-        assert!(rt; is_written(rt.alloc(), &choices(rt.alloc(), bytes)?, written)?);
+        assert!(rt; is_written(rt.alloc(), choices(rt.alloc(), bytes)?, written)?);
     }
     Ok(())
 }

@@ -1,9 +1,9 @@
-//! The types that these tests begin with, and messages of them.
+//! The types that these tests begin with, and messages of them, each lent to the end of the run.
 
 use prost_reflect::{
     DescriptorPool, DynamicMessage, EncodeError, FieldDescriptor, MessageDescriptor,
 };
-use prost_reflect_samples::sets;
+use prost_reflect_samples::{leaked, sets};
 use std::alloc::Global;
 use std::test::Fail;
 
@@ -12,9 +12,12 @@ pub(crate) fn message_type(
     alloc: Global,
     set: &[u8],
     name: &str,
-) -> Result<MessageDescriptor, Fail> {
-    let found = DescriptorPool::decode(alloc, set)?.get_message_by_name(name)?;
-    Ok(found.ok_or("no such message type")?)
+) -> Result<&'static MessageDescriptor, Fail> {
+    let pool = leaked(alloc, DescriptorPool::decode(alloc, set)?)?;
+    let found = pool
+        .get_message_by_name(name)?
+        .ok_or("no such message type")?;
+    Ok(leaked(alloc, found)?)
 }
 
 /// The message that the bytes mean to the type of a name in a descriptor set.
@@ -23,22 +26,24 @@ pub(crate) fn message_of(
     set: &[u8],
     name: &str,
     bytes: &[u8],
-) -> Result<DynamicMessage, Fail> {
-    Ok(DynamicMessage::decode(alloc, message_type(alloc, set, name)?, bytes)?)
+) -> Result<&'static mut DynamicMessage, Fail> {
+    let found = message_type(alloc, set, name)?;
+    let message = DynamicMessage::decode(alloc, found.clone()?, bytes)?;
+    Ok(leaked(alloc, message)?)
 }
 
 /// The message of `Choices` in `choices` that the bytes mean.
-pub(crate) fn choices(alloc: Global, bytes: &[u8]) -> Result<DynamicMessage, Fail> {
+pub(crate) fn choices(alloc: Global, bytes: &[u8]) -> Result<&'static mut DynamicMessage, Fail> {
     message_of(alloc, sets::choices(), "Choices", bytes)
 }
 
 /// The message of `MyMessage` in `newer` that the bytes mean.
-pub(crate) fn my_message(alloc: Global, bytes: &[u8]) -> Result<DynamicMessage, Fail> {
+pub(crate) fn my_message(alloc: Global, bytes: &[u8]) -> Result<&'static mut DynamicMessage, Fail> {
     message_of(alloc, sets::newer(), "package.MyMessage", bytes)
 }
 
 /// The message type of a name in `worked`.
-pub(crate) fn worked_type(alloc: Global, name: &str) -> Result<MessageDescriptor, Fail> {
+pub(crate) fn worked_type(alloc: Global, name: &str) -> Result<&'static MessageDescriptor, Fail> {
     message_type(alloc, sets::worked(), name)
 }
 
@@ -47,19 +52,27 @@ pub(crate) fn worked_field(
     alloc: Global,
     name: &str,
     number: u32,
-) -> Result<FieldDescriptor, Fail> {
-    let found = worked_type(alloc, name)?.get_field(number)?;
-    Ok(found.ok_or("no such field")?)
+) -> Result<&'static FieldDescriptor, Fail> {
+    let found = worked_type(alloc, name)?
+        .get_field(number)?
+        .ok_or("no such field")?;
+    Ok(leaked(alloc, found)?)
 }
 
 /// The empty message of the type of a name in `worked`.
-pub(crate) fn empty(alloc: Global, name: &str) -> Result<DynamicMessage, Fail> {
-    Ok(DynamicMessage::new(alloc, worked_type(alloc, name)?))
+pub(crate) fn empty(alloc: Global, name: &str) -> Result<&'static mut DynamicMessage, Fail> {
+    let found = worked_type(alloc, name)?;
+    let message = DynamicMessage::new(alloc, found.clone()?);
+    Ok(leaked(alloc, message)?)
 }
 
 /// The message that the digits mean to the type of a name in `worked`.
-pub(crate) fn decoded(alloc: Global, name: &str, digits: &str) -> Result<DynamicMessage, Fail> {
-    let bytes = hex::decode(alloc, digits)?;
+pub(crate) fn decoded(
+    alloc: Global,
+    name: &str,
+    digits: &str,
+) -> Result<&'static mut DynamicMessage, Fail> {
+    let bytes = leaked(alloc, hex::decode(alloc, digits)?)?;
     message_of(alloc, sets::worked(), name, bytes.as_slice())
 }
 
@@ -70,7 +83,7 @@ pub(crate) fn is_message(
     name: &str,
     digits: &str,
 ) -> Result<bool, Fail> {
-    Ok(*message == decoded(alloc, name, digits)?)
+    Ok(*message == *decoded(alloc, name, digits)?)
 }
 
 /// Whether the message may be written, and is written as these bytes.

@@ -5,7 +5,7 @@ use prost_reflect::{
     DynamicMessage, EncodeError, TakenUnknownFields, UnknownField, UnknownFieldValue,
     UnknownFields, Value,
 };
-use prost_reflect_samples::sets;
+use prost_reflect_samples::{leaked, sets};
 use std::alloc::Global;
 use std::test::Fail;
 
@@ -22,7 +22,7 @@ static BYTES: &[u8] = &[0x30, 1, 0x28, 2, 0x28, 1];
 static ROWS: [(u32, u64); 3] = [(5, 2), (5, 1), (6, 1)];
 
 /// The message of `C` that the bytes mean.
-fn closed(alloc: Global, bytes: &[u8]) -> Result<DynamicMessage, Fail> {
+fn closed(alloc: Global, bytes: &[u8]) -> Result<&'static mut DynamicMessage, Fail> {
     message_of(alloc, CLOSED, "C", bytes)
 }
 
@@ -67,67 +67,61 @@ fn lists_unknown(alloc: Global, message: &DynamicMessage) -> Result<bool, Encode
 #[test]
 fn unknown_fields_are_listed_in_ascending_number(rt: HostRuntime) -> Result<(), Fail> {
     let message = my_message(rt.alloc(), BYTES)?;
-    assert!(rt; lists_unknown(rt.alloc(), &message)?);
+    assert!(rt; lists_unknown(rt.alloc(), message)?);
     Ok(())
 }
 
 /// Whether the message is empty once its unknown fields are taken, and these are the rows.
 fn gives_unknown(alloc: Global, message: &mut DynamicMessage) -> Result<bool, Fail> {
+    let found = message_type(alloc, sets::newer(), "package.MyMessage")?;
+    let empty = leaked(alloc, DynamicMessage::new(alloc, found.clone()?))?;
     let taken = message.take_unknown_fields(alloc)?;
-    let empty = DynamicMessage::new(
-        alloc,
-        message_type(alloc, sets::newer(), "package.MyMessage")?,
-    );
-    Ok(*message == empty && are_taken_varints(taken, &ROWS))
+    let is_empty = *message == *empty;
+    Ok(are_taken_varints(taken, &ROWS) && is_empty)
 }
 
 #[test]
 fn unknown_fields_are_taken_at_the_call(rt: HostRuntime) -> Result<(), Fail> {
-    let mut message = my_message(rt.alloc(), BYTES)?;
-    assert!(rt; gives_unknown(rt.alloc(), &mut message)?);
+    let message = my_message(rt.alloc(), BYTES)?;
+    assert!(rt; gives_unknown(rt.alloc(), message)?);
     Ok(())
 }
 
 /// Whether a stored default of `foo` stays.
 fn keeps_default(alloc: Global, message: &mut DynamicMessage) -> Result<bool, Fail> {
     drop(message.take_unknown_fields(alloc)?);
-    Ok(*message == my_message(alloc, &[0x08, 0])?)
+    Ok(*message == *my_message(alloc, &[0x08, 0])?)
 }
 
 /// Whether a 7 that is a stray of `x` is taken, and a 1 stays.
 fn gives_stray(alloc: Global, message: &mut DynamicMessage) -> Result<bool, Fail> {
     Ok(
         are_taken_varints(message.take_unknown_fields(alloc)?, &[(4, 7)])
-            && *message == closed(alloc, &[0x20, 1])?,
+            && *message == *closed(alloc, &[0x20, 1])?,
     )
 }
 
 /// A stored default and a value beside a stray are no unknown fields.
 #[test]
 fn values_stay_where_unknown_fields_are_taken(rt: HostRuntime) -> Result<(), Fail> {
-    assert!(rt;
-        keeps_default(
-            rt.alloc(),
-            &mut my_message(rt.alloc(), &[0x28, 2, 0x08, 0])?
-        )?
-    );
-    assert!(rt; gives_stray(rt.alloc(), &mut closed(rt.alloc(), &[0x20, 7, 0x20, 1])?)?);
+    assert!(rt; keeps_default(rt.alloc(), my_message(rt.alloc(), &[0x28, 2, 0x08, 0])?)?);
+    assert!(rt; gives_stray(rt.alloc(), closed(rt.alloc(), &[0x20, 7, 0x20, 1])?)?);
     Ok(())
 }
 
 /// Whether a stray of 7 stays where `y` is set to what it is.
 fn keeps_stray(alloc: Global, message: &mut DynamicMessage) -> Result<bool, Fail> {
+    message.try_set_field_by_name("y", Value::I32(5))?;
     Ok(
-        message.try_set_field_by_name("y", Value::I32(5)).is_ok()
-            && are_varints(message.unknown_fields(), &[(4, 7)])
-            && *message == closed(alloc, &[0x20, 7, 0x28, 5])?,
+        are_varints(message.unknown_fields(), &[(4, 7)])
+            && *message == *closed(alloc, &[0x20, 7, 0x28, 5])?,
     )
 }
 
 /// A number that the enum of `x` does not declare stays where `y`, of the same oneof, is set.
 #[test]
 fn a_stray_stays_beside_a_sibling(rt: HostRuntime) -> Result<(), Fail> {
-    let mut message = closed(rt.alloc(), &[0x20, 7, 0x28, 5])?;
-    assert!(rt; keeps_stray(rt.alloc(), &mut message)?);
+    let message = closed(rt.alloc(), &[0x20, 7, 0x28, 5])?;
+    assert!(rt; keeps_stray(rt.alloc(), message)?);
     Ok(())
 }

@@ -2,7 +2,7 @@
 
 use crate::fields::types::{empty, is_message, is_written, message_type, worked_field};
 use prost_reflect::{DynamicMessage, FieldDescriptor, MapKey, SetFieldError, Value};
-use prost_reflect_samples::sets;
+use prost_reflect_samples::{leaked, sets};
 use std::alloc::{AllocError, Global};
 use std::test::Fail;
 
@@ -43,7 +43,7 @@ fn is_list_set(
     field: &FieldDescriptor,
 ) -> Result<bool, Fail> {
     let digits = "0a0b01ffffffffffffffffff01";
-    let written = hex::decode(alloc, digits)?;
+    let written = leaked(alloc, hex::decode(alloc, digits)?)?;
     Ok(
         tries(alloc, message, field, ("list", true))?
             && is_written(alloc, message, written.as_slice())?
@@ -54,8 +54,8 @@ fn is_list_set(
 #[test]
 fn a_list_is_set(rt: HostRuntime) -> Result<(), Fail> {
     let values = worked_field(rt.alloc(), "a.Foo", 1)?;
-    let mut message = empty(rt.alloc(), "a.Foo")?;
-    assert!(rt; is_list_set(rt.alloc(), &mut message, &values)?);
+    let message = empty(rt.alloc(), "a.Foo")?;
+    assert!(rt; is_list_set(rt.alloc(), message, values)?);
     Ok(())
 }
 
@@ -101,8 +101,9 @@ fn a_worked_refusal_names_the_type(rt: HostRuntime) -> Result<(), Fail> {
     let alloc = rt.alloc();
     for (name, word, text) in &REFUSALS {
         let field = worked_field(alloc, name, 1)?;
-        let mut message = DynamicMessage::new(alloc, field.parent_message().clone()?);
-        assert!(rt; refuses(alloc, &mut message, &field, (*word, *text))?);
+        let parent = field.parent_message();
+        let message = leaked(alloc, DynamicMessage::new(alloc, parent.clone()?))?;
+        assert!(rt; refuses(alloc, message, field, (*word, *text))?);
     }
     Ok(())
 }
@@ -124,8 +125,8 @@ fn keeps_value(
 #[test]
 fn a_refused_value_changes_nothing(rt: HostRuntime) -> Result<(), Fail> {
     let foo = worked_field(rt.alloc(), "package.MyMessage", 1)?;
-    let mut message = empty(rt.alloc(), "package.MyMessage")?;
-    assert!(rt; keeps_value(rt.alloc(), &mut message, &foo)?);
+    let message = empty(rt.alloc(), "package.MyMessage")?;
+    assert!(rt; keeps_value(rt.alloc(), message, foo)?);
     Ok(())
 }
 
@@ -139,9 +140,10 @@ fn is_text(key: &Option<MapKey>, text: &str) -> bool {
 
 #[test]
 fn values_become_keys(rt: HostRuntime) -> Result<(), Fail> {
+    let five = leaked(rt.alloc(), Some(MapKey::I32(5)))?;
     let text = Value::String(String::from_str(rt.alloc(), "foo")?);
     assert!(rt; is_text(&text.into_map_key(), "foo"));
-    assert!(rt; Value::I32(5).into_map_key() == Some(MapKey::I32(5)));
+    assert!(rt; Value::I32(5).into_map_key() == *five);
     assert!(rt; Value::Bytes(Vec::new(rt.alloc())).into_map_key().is_none());
     Ok(())
 }
@@ -150,7 +152,7 @@ fn values_become_keys(rt: HostRuntime) -> Result<(), Fail> {
 fn is_reduction(alloc: Global, name: &str) -> Result<bool, Fail> {
     let older = message_type(alloc, sets::older(), name)?;
     let newer = message_type(alloc, sets::newer(), name)?;
-    Ok(older.is_reduction_of(&newer)?)
+    Ok(older.is_reduction_of(newer)?)
 }
 
 /// A type without a field is a reduction, and one without the members of a oneof is none.

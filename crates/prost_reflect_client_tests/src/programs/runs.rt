@@ -9,7 +9,7 @@ use crate::programs::editing::{clear_owned, set_number_twice, set_twice};
 use crate::programs::merging::read_in_pieces;
 use crate::programs::nesting::clear_before;
 use prost_reflect::{DynamicMessage, Kind, MapKey};
-use prost_reflect_samples::sets;
+use prost_reflect_samples::{leaked, sets};
 use std::alloc::{AllocError, Global};
 use std::test::Fail;
 
@@ -30,7 +30,7 @@ fn finds_its_own(alloc: Global, message: &DynamicMessage) -> Result<bool, AllocE
 #[test]
 fn a_message_finds_its_own(rt: HostRuntime) -> Result<(), Fail> {
     let message = choices(rt.alloc(), BYTES)?;
-    assert!(rt; finds_its_own(rt.alloc(), &message)?);
+    assert!(rt; finds_its_own(rt.alloc(), message)?);
     Ok(())
 }
 
@@ -38,63 +38,67 @@ fn a_message_finds_its_own(rt: HostRuntime) -> Result<(), Fail> {
 fn sets_to_seven(alloc: Global, message: &mut DynamicMessage) -> Result<bool, Fail> {
     set_twice(message, "f2")?;
     set_number_twice(message, 6)?;
-    Ok(*message == choices(alloc, &[0x08, 5, 0x10, 7, 0x30, 7, 0x60, 7])?)
+    Ok(*message == *choices(alloc, &[0x08, 5, 0x10, 7, 0x30, 7, 0x60, 7])?)
 }
 
 #[test]
 fn a_field_is_set_twice(rt: HostRuntime) -> Result<(), Fail> {
-    let mut message = choices(rt.alloc(), BYTES)?;
-    assert!(rt; sets_to_seven(rt.alloc(), &mut message)?);
+    let message = choices(rt.alloc(), BYTES)?;
+    assert!(rt; sets_to_seven(rt.alloc(), message)?);
     Ok(())
 }
 
 /// Whether each field is cleared, and not the extension.
 fn clears_fields(alloc: Global, message: &mut DynamicMessage) -> Result<bool, Fail> {
     clear_owned(message)?;
-    Ok(*message == choices(alloc, &BYTES[2..])?)
+    Ok(*message == *choices(alloc, &BYTES[2..])?)
 }
 
 #[test]
 fn each_field_is_cleared(rt: HostRuntime) -> Result<(), Fail> {
-    let mut message = choices(rt.alloc(), BYTES)?;
-    assert!(rt; clears_fields(rt.alloc(), &mut message)?);
+    let message = choices(rt.alloc(), BYTES)?;
+    assert!(rt; clears_fields(rt.alloc(), message)?);
     Ok(())
 }
 
 #[test]
 fn keys_have_defaults(rt: HostRuntime) -> Result<(), Fail> {
-    assert!(rt; default_key(rt.alloc(), &Kind::Sint32) == Some(MapKey::I32(0)));
-    assert!(rt; default_key(rt.alloc(), &Kind::Bytes).is_none());
+    let number = leaked(rt.alloc(), Kind::Sint32)?;
+    let zero = leaked(rt.alloc(), Some(MapKey::I32(0)))?;
+    assert!(rt; default_key(rt.alloc(), number) == *zero);
+    let bytes = leaked(rt.alloc(), Kind::Bytes)?;
+    assert!(rt; default_key(rt.alloc(), bytes).is_none());
     Ok(())
 }
 
 /// Whether `n` is cleared in the message and in those that `v` leads to.
 fn clears_inside(alloc: Global, message: &mut DynamicMessage) -> Result<bool, Fail> {
     let cleared = clear_before(alloc, message, "v", "n").is_ok();
-    Ok(cleared && *message == message_of(alloc, sets::kinds(), "v.V", &[0x3a, 2, 0x3a, 0])?)
+    Ok(cleared && *message == *message_of(alloc, sets::kinds(), "v.V", &[0x3a, 2, 0x3a, 0])?)
 }
 
 #[test]
 fn a_field_is_cleared_inside(rt: HostRuntime) -> Result<(), Fail> {
     let bytes = &[0x30, 5, 0x3a, 6, 0x30, 5, 0x3a, 2, 0x30, 5];
-    let mut message = message_of(rt.alloc(), sets::kinds(), "v.V", bytes)?;
-    assert!(rt; clears_inside(rt.alloc(), &mut message)?);
+    let message = message_of(rt.alloc(), sets::kinds(), "v.V", bytes)?;
+    assert!(rt; clears_inside(rt.alloc(), message)?);
     Ok(())
 }
 
 /// Whether the message in two pieces is the message, and each piece holds something else.
 fn is_joined(alloc: Global, message: &DynamicMessage) -> Result<bool, Fail> {
-    let joined = read_in_pieces(alloc, message.descriptor()?, &BYTES[..2], &BYTES[2..])?;
+    let pieces = read_in_pieces(alloc, message.descriptor()?, &BYTES[..2], &BYTES[2..])?;
+    let joined = leaked(alloc, pieces)?;
     let front = choices(alloc, &BYTES[..2])?;
     Ok(
-        hold_the_same(alloc, message, &joined)? == Some(true)
-            && hold_the_same(alloc, message, &front)? == Some(false),
+        hold_the_same(alloc, message, joined)? == Some(true)
+            && hold_the_same(alloc, message, front)? == Some(false),
     )
 }
 
 #[test]
 fn pieces_hold_what_the_whole_holds(rt: HostRuntime) -> Result<(), Fail> {
     let message = choices(rt.alloc(), BYTES)?;
-    assert!(rt; is_joined(rt.alloc(), &message)?);
+    assert!(rt; is_joined(rt.alloc(), message)?);
     Ok(())
 }

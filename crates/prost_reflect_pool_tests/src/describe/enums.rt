@@ -22,6 +22,7 @@ fn write_whole(lines: &mut Lines, found: &EnumDescriptor) -> Result<(), AllocErr
     Ok(())
 }
 
+/// The line of an enum.
 fn write_enum(lines: &mut Lines, found: &EnumDescriptor) -> Result<(), AllocError> {
     lines.word("enum ", found.full_name());
     lines.word(" name=", found.name());
@@ -37,6 +38,7 @@ fn write_enum(lines: &mut Lines, found: &EnumDescriptor) -> Result<(), AllocErro
     Ok(())
 }
 
+/// The line of a value.
 fn write_value(lines: &mut Lines, value: &EnumValueDescriptor) {
     lines.word("value ", value.full_name());
     lines.word(" enum=", value.parent_enum().full_name());

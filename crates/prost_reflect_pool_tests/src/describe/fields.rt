@@ -24,6 +24,7 @@ pub fn write_field(lines: &mut Lines, field: &FieldDescriptor) -> Result<(), All
     Ok(())
 }
 
+/// The name of the oneof, or `-` where there is none.
 fn name_or_none(oneof: &Option<OneofDescriptor>) -> &str {
     match oneof {
         Some(oneof) => oneof.name(),
@@ -49,6 +50,7 @@ pub fn write_extensions(lines: &mut Lines, pool: &DescriptorPool) -> Result<(), 
     Ok(())
 }
 
+/// The line of an extension.
 fn write_extension(lines: &mut Lines, extension: &ExtensionDescriptor) -> Result<(), AllocError> {
     write_place(lines, extension)?;
     lines.value(" number=", extension.number());

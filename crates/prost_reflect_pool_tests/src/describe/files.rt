@@ -13,6 +13,7 @@ pub fn write_files(lines: &mut Lines, pool: &DescriptorPool) -> Result<(), Alloc
     Ok(())
 }
 
+/// The line of a file.
 fn write_file(lines: &mut Lines, file: &FileDescriptor) -> Result<(), AllocError> {
     lines.word("file ", file.name());
     lines.value(" index=", file.index());
@@ -36,6 +37,7 @@ pub fn write_services(lines: &mut Lines, pool: &DescriptorPool) -> Result<(), Al
     Ok(())
 }
 
+/// A service, followed by its methods.
 fn write_service(lines: &mut Lines, service: &ServiceDescriptor) -> Result<(), AllocError> {
     lines.word("service ", service.full_name());
     lines.word(" file=", service.parent_file()?.name());
@@ -49,6 +51,7 @@ fn write_service(lines: &mut Lines, service: &ServiceDescriptor) -> Result<(), A
     Ok(())
 }
 
+/// The line of a method.
 fn write_method(lines: &mut Lines, method: &MethodDescriptor) -> Result<(), AllocError> {
     lines.word("method ", method.full_name());
     lines.path(" path=", method.path());

@@ -14,6 +14,7 @@ pub struct Lines {
 }
 
 impl Lines {
+    /// No lines.
     pub fn new(alloc: Global) -> Lines {
         Lines {
             text: String::new(alloc),
@@ -87,9 +88,9 @@ impl Lines {
     }
 
     /// The text of all lines.
-    pub fn finish(self) -> Result<String, AllocError> {
+    pub fn finish(&self) -> Result<&str, AllocError> {
         self.outcome?;
-        Ok(self.text)
+        Ok(self.text.as_str())
     }
 }
 
