@@ -20,6 +20,7 @@ ghost use Rattle.prost_reflect_dynamic.specs.declared.value.MapKey.{MapKey};
 
 pub use prost_reflect_dynamic::{descriptor_equality, one_member};
 use prost_reflect_dynamic::{MapKey, MessageDescriptor};
+pub use prost_reflect_laws::laws::kept_well;
 use std::hash::Hash;
 
 /// What each variant of a value is in the definitions.

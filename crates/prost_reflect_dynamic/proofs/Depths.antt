@@ -233,7 +233,10 @@ alone_depth m new is = no_deeper m new (subst (AllByRecursion (SmallIn m)) (sym 
 pub nothing_depth : (m new : DynamicMessage) → stored_in new ≡ [] → size-DynamicMessage new ≤ size-DynamicMessage m
 nothing_depth m new is = no_deeper m new (subst (AllByRecursion (SmallIn m)) (sym is) tt)
 
--- A MAP'S ENTRIES
+-- WHAT A VALUE HOLDS
+
+pub message_small : (v : Value) (m : DynamicMessage) → v ≡ values.Message m → size-DynamicMessage m < size-Value v
+message_small v m is = search (rules, the_lemmas)
 
 module _ (v : Value) (map : BTreeMap MapKey Value Global) (is : v ≡ values.Map map) where
   value_small : (k : ℕ) (d : Value) → k < length (values_of map.entries) → size-Value (get_or (values_of map.entries) k d) < size-Value v

@@ -1,5 +1,5 @@
 -- The options of definitions (descriptor.proto, "Options"): the bytes that a definition's record stores, the message type that they are read by, and what reading them answers.
-use Rattle.std.specs.Prelude.{◌≡◌, ◌≢◌, ℕ, List, [], Option, Some, None, Result, Ok, Err, Vec, codes, ⊤}
+use Rattle.std.specs.Prelude.{◌≡◌, ◌≢◌, ℕ, true, List, [], Option, Some, None, Result, Ok, Err, Vec, codes, ⊤}
 use Rattle.std.specs.declared.alloc.Global.{Global}
 use Rattle.std.specs.declared.rc.Rc.{Rc}
 use Rattle.prost_reflect_types.specs.declared.DescriptorProto.TheViews.{out-DescriptorProto}
@@ -13,7 +13,9 @@ use Rattle.prost_reflect_tables.specs.Shown.{schema_from}
 use Rattle.prost_reflect_pool.specs.RecordPaths.{AnyRecord, FileRecord, MessageRecord, FieldRecord, OneofRecord, EnumRecord, ValueRecord, ServiceRecord, MethodRecord}
 use Rattle.prost_reflect_pool.specs.SharedPools.{pool_rows}
 use Rattle.prost_reflect_pool.specs.declared.pool.LinkedPool.{LinkedPool}
+use Rattle.prost_reflect_dynamic.specs.DeepTypes.{all_typed}
 use Rattle.prost_reflect_dynamic.specs.ReadBack.{IsFaulty}
+use Rattle.prost_reflect_dynamic.specs.Stored.{message_stored}
 use Rattle.prost_reflect_dynamic.specs.View.{content_of, message_type_of}
 use Rattle.prost_reflect_dynamic.specs.declared.descriptor.options.OptionsError.{OptionsError}
 use Rattle.prost_reflect_dynamic.specs.declared.descriptor.options.OptionsError.TheVariants.{NoOptionsMessage, Decode, OutOfMemory}
@@ -49,12 +51,13 @@ options_name (MethodRecord m) = codes "google.protobuf.MethodOptions"
 
 -- WHAT READING ANSWERS
 
--- The message is of the message type at a place of the pool, and stores what the bytes mean to that.
+-- The message is of the message type at a place of the pool, and stores what the bytes mean to that; each message inside is of its field's type.
 pub record IsRead (pool : Rc LinkedPool Global) (T : ℕ) (bytes : List ℕ) (message : DynamicMessage) : Type 0 where
   pub of_pool : (message_type_of message).pool.value ≡ pool.value
   pub of_type : (message_type_of message).index ≡ T
   pub means : decoded (schema_from (pool_rows pool)) LEVEL_LIMIT T bytes ≡ Some (kept (content_of message))
   pub sound : WellStored (content_of message)
+  pub typed : all_typed (message_stored message) ≡ true
 
 -- Being out of memory is no fault of the bytes.
 abbrev pub options_refusal : DecodeError → OptionsError

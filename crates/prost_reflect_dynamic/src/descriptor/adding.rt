@@ -46,7 +46,8 @@ impl DescriptorPool {
         Ok(pool)
     }
 
-    /// A pool of the files of the set that the bytes are the encoding of; of several files of one name the first is taken.
+    /// A pool of the files of the set that the bytes are the encoding of; of several files of one name the first is taken. No
+    /// bytes are the set of no files, and give an empty pool.
     ///
     /// ```
     /// // Whether the files of the descriptor set define the message type of the full name.

@@ -1,13 +1,14 @@
 //! Asking, reading, setting, clearing and taking fields.
 
-ghost use Rattle.std.specs.Prelude.{◌≡◌, ◌↔◌, ◌&&◌, IsTrue, true, false, None, Some, is_some, option_and_then, if◌then◌else◌, OnOk, OnErr, IfOk, IsOk};
+ghost use Rattle.std.specs.Prelude.{◌≡◌, ◌↔◌, ◌<◌, ◌&&◌, IsTrue, true, false, None, Some, is_some, option_and_then, if◌then◌else◌, OnOk, OnErr, IfOk, IfSome, IsOk};
 ghost use Rattle.std.specs.Borrow.{LendsIfOk, sem};
 ghost use Rattle.std.specs.Option.{option_copied};
 ghost use Rattle.prost_reflect_wire.specs.Content.{entries_of, value_at};
-ghost use Rattle.prost_reflect_dynamic.specs.Depths.{LendsInside};
+ghost use Rattle.prost_reflect_dynamic.specs.Depths.{LendsInside, ShownInside};
 ghost use Rattle.prost_reflect_dynamic.specs.contracts.message.DynamicMessage.{the_row};
 ghost use Rattle.prost_reflect_dynamic.specs.contracts.value.Value as value;
-ghost use Rattle.prost_reflect_dynamic.specs.declared.value.Value.{Value};
+ghost use Rattle.prost_reflect_dynamic.specs.declared.message.DynamicMessage.{size-DynamicMessage};
+ghost use Rattle.prost_reflect_dynamic.specs.declared.value.Value.{Value, size-Value};
 ghost use Rattle.prost_reflect_wire.specs.Schema.{field_of, passes};
 ghost use Rattle.prost_reflect_wire.specs.Typing.{kept_inside, is_field_default};
 ghost use Rattle.prost_reflect_dynamic.specs.Edits.{LeavesSet, Removes, Sets};
@@ -77,7 +78,8 @@ impl DynamicMessage {
         field: &FieldDescriptor,
     ) -> Result<Cow<'_, Value>, AllocError>
         requires { IsOwnField (message_type_of self.now) field.now }
-        ensures { IfOk result (Shows self.now (number_of field.now)) }
+        ensures shown { IfOk result (Shows self.now (number_of field.now)) }
+        ensures inside { IfOk result (ShownInside self.now) }
     {
         self.value_or_default(alloc, field.number())
     }
@@ -94,6 +96,7 @@ impl DynamicMessage {
         number: u32,
     ) -> Result<Option<Cow<'_, Value>>, AllocError>
         ensures shown { IfOk result (ShowsIf (is_field_number (message_type_of self.now) number) self.now number) }
+        ensures inside { IfOk result (λ found. IfSome found (ShownInside self.now)) }
         ensures missing { is_field_number (message_type_of self.now) number ≡ false → IsOk result }
     {
         if self.is_field_number(number) {
@@ -169,6 +172,7 @@ impl DynamicMessage {
     pub fn take_field(&mut self, field: &FieldDescriptor) -> Option<Value>
         requires { IsOwnField (message_type_of self.old) field.now }
         ensures value { result ≡ had_at (number_of field.now) self.old }
+        ensures inside { IfSome result (λ value. size-Value value < size-DynamicMessage self.old) }
         ensures removes { Removes (cleared_if (Some (number_of field.now))) self.old self.new }
         ensures gone { has_at (number_of field.now) (content_of self.new) ≡ false }
     {
@@ -178,6 +182,7 @@ impl DynamicMessage {
     /// Takes the value of the field of a number. There is none, and nothing changes, where no field has the number.
     pub fn take_field_by_number(&mut self, number: u32) -> Option<Value>
         ensures value { result ≡ (if is_field_number (message_type_of self.old) number then had_at number self.old else None) }
+        ensures inside { IfSome result (λ value. size-Value value < size-DynamicMessage self.old) }
         ensures removes { Removes (cleared_if (number_declared (message_type_of self.old) number)) self.old self.new }
         ensures gone { passes (number_declared (message_type_of self.old) number) (λ n. has_at n (content_of self.new)) ≡ false }
         ensures unchanged { is_field_number (message_type_of self.old) number ≡ false → self.new ≡ self.old }
@@ -264,7 +269,8 @@ impl DynamicMessage {
         number: u32,
     ) -> Result<Cow<'_, Value>, AllocError>
         requires { is_known (known_of (message_type_of self.now)) number ≡ true }
-        ensures { IfOk result (Shows self.now number) }
+        ensures shown { IfOk result (Shows self.now number) }
+        ensures inside { IfOk result (ShownInside self.now) }
     {
         match self.stored_value(number) {
             Some(value) => Ok(Cow::Borrowed(value)),
@@ -323,6 +329,7 @@ impl DynamicMessage {
     /// Takes the value at the number, and answers it if the message had it.
     pub(super) fn take_had(&mut self, number: u32) -> Option<Value>
         ensures value { result ≡ had_at number self.old }
+        ensures inside { IfSome result (λ value. size-Value value < size-DynamicMessage self.old) }
         ensures removes { Removes (cleared_if (Some number)) self.old self.new }
         ensures gone { has_at number (content_of self.new) ≡ false }
     {

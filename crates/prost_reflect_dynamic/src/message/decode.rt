@@ -51,6 +51,8 @@ impl DynamicMessage {
     /// One Wins", "Oneofs", "Packed Repeated Fields" and "Maps"; the language guide, "Unknown Fields"; the page "Enum
     /// Behavior").
     ///
+    /// No bytes are the message that stores nothing.
+    ///
     /// The values of the message fit their fields, and the messages inside are of their fields' types, as `is_encodable` and
     /// `is_typed` tell; so it may be encoded, and bytes may be merged into it.
     ///

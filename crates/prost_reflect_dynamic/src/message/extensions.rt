@@ -1,13 +1,14 @@
 //! Asking, reading, setting, clearing and taking extensions (the proto2 guide, "Extensions").
 
-ghost use Rattle.std.specs.Prelude.{◌≡◌, ◌↔◌, IsTrue, true, false, Some, OnOk, OnErr, IfOk};
+ghost use Rattle.std.specs.Prelude.{◌≡◌, ◌↔◌, ◌<◌, IsTrue, true, false, Some, OnOk, OnErr, IfOk, IfSome};
 ghost use Rattle.std.specs.Borrow.{LendsIfOk, sem};
 ghost use Rattle.prost_reflect_dynamic.specs.contracts.message.DynamicMessage.{the_row};
 ghost use Rattle.prost_reflect_dynamic.specs.contracts.value.Value as value;
-ghost use Rattle.prost_reflect_dynamic.specs.declared.value.Value.{Value};
+ghost use Rattle.prost_reflect_dynamic.specs.declared.message.DynamicMessage.{size-DynamicMessage};
+ghost use Rattle.prost_reflect_dynamic.specs.declared.value.Value.{Value, size-Value};
 ghost use Rattle.prost_reflect_dynamic.specs.Access.{has_at, had_at, Shows, IsLentOf, left_at};
 ghost use Rattle.prost_reflect_dynamic.specs.Contents.{cleared_if, value_set};
-ghost use Rattle.prost_reflect_dynamic.specs.Depths.{LendsInside};
+ghost use Rattle.prost_reflect_dynamic.specs.Depths.{LendsInside, ShownInside};
 ghost use Rattle.prost_reflect_dynamic.specs.Edits.{LeavesSet, Removes, Sets};
 ghost use Rattle.prost_reflect_dynamic.specs.ExtensionAccess.{IsOwnExtension, extension_number, extension_takes};
 ghost use Rattle.prost_reflect_dynamic.specs.View.{value_of, content_of, message_type_of};
@@ -58,7 +59,8 @@ impl DynamicMessage {
         extension: &ExtensionDescriptor,
     ) -> Result<Cow<'_, Value>, AllocError>
         requires { IsOwnExtension (message_type_of self.now) extension.now }
-        ensures { IfOk result (Shows self.now (extension_number extension.now)) }
+        ensures shown { IfOk result (Shows self.now (extension_number extension.now)) }
+        ensures inside { IfOk result (ShownInside self.now) }
     {
         self.value_or_default(alloc, extension.number())
     }
@@ -102,6 +104,7 @@ impl DynamicMessage {
     pub fn take_extension(&mut self, extension: &ExtensionDescriptor) -> Option<Value>
         requires { IsOwnExtension (message_type_of self.old) extension.now }
         ensures value { result ≡ had_at (extension_number extension.now) self.old }
+        ensures inside { IfSome result (λ value. size-Value value < size-DynamicMessage self.old) }
         ensures removes { Removes (cleared_if (Some (extension_number extension.now))) self.old self.new }
         ensures gone { has_at (extension_number extension.now) (content_of self.new) ≡ false }
     {

@@ -1,12 +1,14 @@
 //! What a value holds, by its variant, for writing.
 
-ghost use Rattle.std.specs.Prelude.{◌≡◌, option_map, string_bytes};
+ghost use Rattle.std.specs.Prelude.{◌≡◌, ◌<◌, IfSome, option_map, string_bytes};
+ghost use Rattle.std.specs.List.{All};
 ghost use Rattle.std.specs.Borrow.{LendsIf, sem, bool, i32, i64, u32, u64};
 ghost use Rattle.std.specs.Option.{option_copied_mut};
 ghost use Rattle.prost_reflect_dynamic.specs.contracts.value.Value.{the_row};
 ghost use Rattle.prost_reflect_dynamic.specs.contracts.message.DynamicMessage as message;
 ghost use Rattle.prost_reflect_dynamic.specs.declared.value.Value as values;
-ghost use Rattle.prost_reflect_dynamic.specs.declared.value.Value.{out-Value};
+ghost use Rattle.prost_reflect_dynamic.specs.declared.message.DynamicMessage.{size-DynamicMessage};
+ghost use Rattle.prost_reflect_dynamic.specs.declared.value.Value.{out-Value, size-Value};
 ghost use Rattle.prost_reflect_dynamic.specs.Lent.{text_row, bytes_row, list_row, map_row};
 ghost use Rattle.prost_reflect_dynamic.specs.Variants.{bool_in, i32_in, i64_in, u32_in, u64_in, f32_in, f64_in, enum_number_in, text_in, bytes_in, message_in, list_in, pairs_in};
 
@@ -139,6 +141,7 @@ impl Value {
     pub fn as_message_mut(&mut self) -> Option<&mut DynamicMessage>
         ensures* writes_back { sem 𝓛 (LendsIf the_row message.the_row self.entry result values.Message self.old) }
         ensures value { option_copied_mut result ≡ message_in (out-Value self.old) }
+        ensures inside { IfSome result (λ message. size-DynamicMessage message.now < size-Value self.old) }
     {
         if let Value::Message(value) = self {
             Some(value)
@@ -151,6 +154,7 @@ impl Value {
     pub fn as_list_mut(&mut self) -> Option<&mut Vec<Value>>
         ensures* writes_back { sem 𝓛 (LendsIf the_row list_row self.entry result values.List self.old) }
         ensures value { option_map (λ values. values.now.items) result ≡ list_in (out-Value self.old) }
+        ensures inside { IfSome result (λ values. All (λ value. size-Value value < size-Value self.old) values.now.items) }
     {
         if let Value::List(value) = self {
             Some(value)
@@ -163,6 +167,7 @@ impl Value {
     pub fn as_map_mut(&mut self) -> Option<&mut BTreeMap<MapKey, Value>>
         ensures* writes_back { sem 𝓛 (LendsIf the_row map_row self.entry result values.Map self.old) }
         ensures value { option_map (λ map. map.now.entries) result ≡ pairs_in (out-Value self.old) }
+        ensures inside { IfSome result (λ map. All (λ entry. size-Value entry.1 < size-Value self.old) map.now.entries) }
     {
         if let Value::Map(value) = self {
             Some(value)

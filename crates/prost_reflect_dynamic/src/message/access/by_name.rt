@@ -1,11 +1,14 @@
 //! Asking, reading, setting, clearing and taking fields by their names.
 
-ghost use Rattle.std.specs.Prelude.{◌≡◌, IfOk, IfSome, IsOk, None, OnErr, OnOk, option_and_then, false, true};
+ghost use Rattle.std.specs.Prelude.{◌≡◌, ◌<◌, IfOk, IfSome, IsOk, None, OnErr, OnOk, option_and_then, false, true};
 ghost use Rattle.prost_reflect_wire.specs.Schema.{passes};
 ghost use Rattle.prost_reflect_dynamic.specs.Access.{number_named, takes_at, has_at, had_at, ShowsFound};
 ghost use Rattle.prost_reflect_dynamic.specs.Contents.{cleared_if};
+ghost use Rattle.prost_reflect_dynamic.specs.Depths.{ShownInside};
 ghost use Rattle.prost_reflect_dynamic.specs.Edits.{Removes, Sets};
 ghost use Rattle.prost_reflect_dynamic.specs.View.{content_of, message_type_of};
+ghost use Rattle.prost_reflect_dynamic.specs.declared.message.DynamicMessage.{size-DynamicMessage};
+ghost use Rattle.prost_reflect_dynamic.specs.declared.value.Value.{size-Value};
 
 use crate::message::DynamicMessage;
 use crate::value::Value;
@@ -35,6 +38,7 @@ impl DynamicMessage {
         name: &str,
     ) -> Result<Option<Cow<'_, Value>>, AllocError>
         ensures shown { IfOk result (ShowsFound (number_named (message_type_of self.now) name.now) self.now) }
+        ensures inside { IfOk result (λ found. IfSome found (ShownInside self.now)) }
         ensures missing { number_named (message_type_of self.now) name.now ≡ None → IsOk result }
     {
         match self.number_named(name) {
@@ -58,6 +62,7 @@ impl DynamicMessage {
     /// Takes the value of the field of a name. There is none, and nothing changes, where no field has the name.
     pub fn take_field_by_name(&mut self, name: &str) -> Option<Value>
         ensures value { result ≡ option_and_then (λ n. had_at n self.old) (number_named (message_type_of self.old) name.now) }
+        ensures inside { IfSome result (λ value. size-Value value < size-DynamicMessage self.old) }
         ensures removes { Removes (cleared_if (number_named (message_type_of self.old) name.now)) self.old self.new }
         ensures gone { passes (number_named (message_type_of self.old) name.now) (λ n. has_at n (content_of self.new)) ≡ false }
         ensures unchanged { number_named (message_type_of self.old) name.now ≡ None → self.new ≡ self.old }
