@@ -89,7 +89,7 @@ impl From<AllocError> for RelayHexError {
 
 /// What the bytes mean to the older type, written again. What that type does not know stays as unknown fields, so a newer
 /// type that it is a reduction of, and that accepts the bytes, reads the same from what is written (the encoding guide,
-/// "Updating A Message Type").
+/// "Updating A Message Type"). No bytes are relayed as none.
 ///
 /// ```
 /// // Of the type `builtin.Plain`, `50 83 00 28 96 01` becomes `28 96 01 50 03`, so this is true.

@@ -83,10 +83,11 @@ fn is_scalar(record: &FieldDescriptorProto, number: u8, name: &str) -> bool {
         && is_bare(record)
 }
 
-/// Whether the field has no other type, default, options and oneof, and is no extension.
+/// Whether the field has no other type, JSON name, default, options and oneof, and is no extension.
 fn is_bare(record: &FieldDescriptorProto) -> bool {
     record.extendee.is_none()
         && record.type_name.is_none()
+        && record.json_name.is_none()
         && record.default_value.is_none()
         && record.options.is_none()
         && record.oneof_index.is_none()

@@ -322,11 +322,13 @@ fn is_list_of_two(alloc: Global, set: &UnknownFieldSet) -> Result<bool, AllocErr
     Ok(is_copied && is_shown && set.len() == 2 && !set.is_empty())
 }
 
-/// Whether the two fields are written in order, and counted.
+/// Whether the two fields are written in order behind 2000 bytes, and counted.
 fn is_written_in_order(alloc: Global, set: &UnknownFieldSet) -> Result<bool, Fail> {
-    let mut out = Vec::new(alloc);
+    let mut out = vec![in alloc; 7; 2000]?;
     set.encode(&mut out)?;
-    Ok(out.as_slice() == [0x08, 7, 0x08, 9].as_slice() && set.encoded_len() == Some(4))
+    let mut expected = vec![in alloc; 7; 2000]?;
+    expected.extend_from_slice(&[0x08, 7, 0x08, 9])?;
+    Ok(out.as_slice() == expected.as_slice() && set.encoded_len() == Some(4))
 }
 
 /// The digits that the fields have, by reference and by `iter`.

@@ -74,7 +74,7 @@ impl From<EncodeError> for RelayWithError {
 /// field of one message or group, and the last is that of the field to set. A message on the way that is not there is made,
 /// and at each number the other members of its oneof go. What the older type does not know stays as unknown fields, so a
 /// newer type that it is a reduction of, and that accepts the bytes, reads from what is written what it reads from them
-/// with that value set at that path.
+/// with that value set at that path. Of no bytes the message with that value alone is written.
 ///
 /// ```
 /// // Of the type `builtin.Plain`, `50 83 00 28 96 01` becomes `28 07 50 03` with 7 at the number 5, so this is true.
