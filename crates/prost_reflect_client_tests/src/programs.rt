@@ -7,4 +7,5 @@ pub mod editing;
 pub mod error;
 pub mod merging;
 pub mod nesting;
+pub mod relaying;
 mod runs;

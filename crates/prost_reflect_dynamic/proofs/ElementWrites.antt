@@ -1,6 +1,6 @@
 -- What is written of a list of messages or groups.
 use Rattle.std.specs.Prelude.{◌≡◌, ◌||◌, ◌∷◌, ◌++◌}
-use Rattle.prost_reflect_dynamic.proofs.Common.{ℕ, Bool, true, false, not, List, [], map, Some, refl, sym, ap, ◌∙◌, subst, true≢false, Vec, Global, and_parts, record_at, spelled, Scalar, Kind, ScalarOf, MessageOf, GroupOf, Repeated, field_of, is_message, is_packable_kind, passes, is_list, MessageValue, ListValue, values_from, schema_of, type_of, element_payloads, encodable, kind_takes, element_valid, elements_valid, value_valid, value_passes, values_pass, fit_test, kept_values, value_bytes, checked_field, checked_list, FieldRow, schema_kind, schema_field, is_repeated, PooledType, DynamicMessage, Value, names_message, schema_at, ValueWritable, nested_bytes, known_of, ElementWritable, AreElements, element_bytes, elements_bytes, pool_rows, value_of, content_of}
+use Rattle.prost_reflect_dynamic.proofs.Common.{ℕ, Bool, true, false, not, List, [], map, Some, refl, sym, ap, ◌∙◌, subst, true≢false, Vec, Global, and_parts, record_at, spelled, Scalar, Kind, ScalarOf, MessageOf, GroupOf, Repeated, field_of, is_message, is_packable_kind, passes, is_list, MessageValue, ListValue, values_from, element_payloads, encodable, kind_takes, element_valid, elements_valid, value_valid, value_passes, values_pass, fit_test, kept_values, value_bytes, checked_field, checked_list, FieldRow, schema_kind, schema_field, is_repeated, PooledType, DynamicMessage, Value, names_message, schema_at, ValueWritable, nested_bytes, known_of, ElementWritable, AreElements, element_bytes, elements_bytes, pool_rows, value_of, content_of}
 use Rattle.prost_reflect_wire.specs.Content as contents
 use Rattle.prost_reflect_laws.proofs.ListWritten.{messages_written}
 use Rattle.prost_reflect_dynamic.specs.declared.value.Value as values

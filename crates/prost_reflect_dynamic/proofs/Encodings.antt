@@ -1,6 +1,6 @@
 -- The entries of a message that is encodable can be written, and their bytes are the encoding of its content.
 use Rattle.std.specs.Prelude.{◌≡◌, ◌∷◌, ◌++◌}
-use Rattle.prost_reflect_dynamic.proofs.Common.{Adds, adds_in_turn, adds_same, ℕ, true, cond, List, [], map, nat_eq, Option, Some, None, refl, sym, ap, ap₂, ◌∙◌, subst, append_assoc, eqb-true, and_parts, list_all, IsStrictlySortedBy, option_map, option_and_then, unwrap_or, is_eq, Record, Payload, record_at, spelled, Field, field_of, passes, Entries, Slot, Stored, Unknown, then_unknowns, then_value, store, encoded, entries_records, EntryTest, fit_test, value_valid, value_passes, encodable, kept, kept_entries, slot_bytes, value_bytes, stored_bytes, records_of, UnknownFieldSet, written_store, FieldSlot, DynamicMessage, Value, IsAscending, item_at, known_of, are_records_of, all_kept, value_in, unknown_in, records_in, records_at, IsSound, UnknownKept, unknown_kept, value_of, content_of, message_type_of, stored_in, slot_of, entries_from, payloads_of, unknown_bytes, entries_bytes, ValueWritable, OwnUnknown, IsWritable, AreWritable, by_number, none_above, itself}
+use Rattle.prost_reflect_dynamic.proofs.Common.{Adds, adds_in_turn, adds_same, ℕ, true, cond, List, [], map, nat_eq, Option, Some, None, refl, sym, ap, ap₂, ◌∙◌, subst, append_assoc, eqb-true, and_parts, list_all, IsStrictlySortedBy, option_map, option_and_then, unwrap_or, is_eq, Record, Payload, record_at, spelled, Field, field_of, passes, Entries, Slot, then_unknowns, then_value, encoded, entries_records, EntryTest, fit_test, value_valid, value_passes, encodable, kept, kept_entries, slot_bytes, value_bytes, stored_bytes, records_of, UnknownFieldSet, written_store, FieldSlot, DynamicMessage, Value, IsAscending, item_at, known_of, are_records_of, all_kept, value_in, unknown_in, records_in, records_at, IsSound, UnknownKept, unknown_kept, value_of, content_of, message_type_of, stored_in, slot_of, entries_from, payloads_of, unknown_bytes, entries_bytes, ValueWritable, OwnUnknown, IsWritable, AreWritable, by_number, none_above, itself}
 use Rattle.prost_reflect_wire.specs.Content as contents
 use Rattle.prost_reflect_wire.specs.Typing.{entries_pass}
 use Rattle.prost_reflect_fields.specs.declared.slot.FieldSlot.TheVariants as entries

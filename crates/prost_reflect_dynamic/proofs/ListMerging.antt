@@ -1,6 +1,6 @@
 -- Records of lists read into a message.
 use Rattle.std.specs.Prelude.{◌≡◌, ◌∷◌, ◌++◌}
-use Rattle.prost_reflect_dynamic.proofs.Common.{ℕ, Bool, true, not, List, [], map, Option, Some, None, refl, sym, ap, ◌∙◌, subst, unwrap_or, Vec, is_some, Global, WireType, DecodeError, AreBytes, ScalarKind, ScalarOf, Repeated, Field, known, field_of, numbers_differ, Content, ContentOf, ListValue, Values, NoValues, Item, values_from, ◌and_then◌, schema_of, type_of, entries_of, value_at, values_in, WellStored, with_field_value, OfType, Step, ElementsRead, StandsBehindKey, field_number, checked_field, checked_list, IsListed, TableKind, DynamicMessage, Value, schema_at, known_of, value_of, content_of, message_type_of, value_set, is_plain_kind, FieldRow, schema_field, is_repeated, pool_rows, PooledType, AddsElements, RefusesElements, JoinsElements, IsList, ListField}
+use Rattle.prost_reflect_dynamic.proofs.Common.{ℕ, Bool, true, not, List, [], map, Option, Some, None, refl, sym, ap, ◌∙◌, subst, unwrap_or, Vec, is_some, Global, WireType, DecodeError, AreBytes, ScalarKind, ScalarOf, Repeated, Field, known, field_of, numbers_differ, Content, ContentOf, ListValue, NoValues, Item, values_from, ◌and_then◌, schema_of, type_of, entries_of, value_at, values_in, WellStored, with_field_value, OfType, Step, ElementsRead, StandsBehindKey, field_number, checked_field, checked_list, IsListed, TableKind, DynamicMessage, Value, schema_at, known_of, value_of, content_of, message_type_of, value_set, is_plain_kind, FieldRow, schema_field, is_repeated, pool_rows, PooledType, AddsElements, RefusesElements, JoinsElements, IsList, ListField}
 use Rattle.prost_reflect_wire.specs.Content as contents
 use Rattle.prost_reflect_types.proofs.FieldsFound.{field_stands}
 use Rattle.prost_reflect_laws.proofs.ListReads.{IsOpen, stored_list, list_holds}

@@ -1,6 +1,6 @@
 -- Records that are merged into a content mean, behind any records of it, what is made of it; and so do bytes behind bytes.
 use Rattle.std.specs.Prelude.{◌≡◌, ◌≤◌, ◌∷◌, ◌++◌}
-use Rattle.prost_reflect_dynamic.proofs.Common.{ℕ, true, Bool, List, [], Option, Some, refl, ap, sym, ◌∙◌, subst, append-nil, arith, max, guard, ◌>>=◌, Records, Record, Spells, items, body_of, valid, RecordsFront, Schema, schema_valid, Content, schema_of, type_of, LEVEL_LIMIT, Accepts, allows, meaning, decoded, steps, levels, merged, WellTyped, items_body, first_front, first_parts}
+use Rattle.prost_reflect_dynamic.proofs.Common.{ℕ, true, List, [], Option, Some, refl, ap, sym, ◌∙◌, subst, append-nil, arith, max, guard, ◌>>=◌, Records, Record, Spells, items, body_of, valid, RecordsFront, Schema, schema_valid, Content, schema_of, type_of, LEVEL_LIMIT, Accepts, allows, meaning, decoded, steps, levels, merged, WellTyped, items_body, first_front, first_parts}
 use Rattle.prost_reflect_wire.proofs.Deeper.{allows_append}
 use Rattle.prost_reflect_wire.proofs.Reading.{spelled_read}
 use Rattle.prost_reflect_wire.proofs.Sound.{guard_ok}

@@ -1,6 +1,6 @@
 -- What is written of a message or a group in the place of its field.
 use Rattle.std.specs.Prelude.{◌≡◌, ◌∷◌, ◌++◌, ◌⊎◌}
-use Rattle.prost_reflect_dynamic.proofs.Common.{ℕ, Bool, true, false, List, [], inl, inr, Some, refl, sym, ap, ◌∙◌, append-nil, append_assoc, true≢false, and_parts, Len, Record, short_key, short_plain, record_at, spelled, Kind, ScalarOf, MessageOf, GroupOf, ValueType, Field, is_message, is_singular, field_of, passes, Content, MessageValue, schema_of, records, message_payload, kept, encodable, value_valid, value_passes, fit_test, value_bytes, message_written, TableKind, FieldRow, EnumRow, schema_kind, schema_field, is_repeated, PooledType, DynamicMessage, Value, Value-F, roll-Value, fold-roll-Value, ind-Value, pool_rows, known_of, ValueWritable, nested_bytes, value_step, message_step, value_of, content_of}
+use Rattle.prost_reflect_dynamic.proofs.Common.{ℕ, Bool, true, false, List, [], inl, inr, Some, refl, sym, ap, ◌∙◌, append-nil, append_assoc, true≢false, and_parts, Len, Record, short_key, short_plain, record_at, spelled, Kind, ScalarOf, MessageOf, GroupOf, ValueType, Field, is_message, is_singular, field_of, passes, Content, MessageValue, records, message_payload, kept, encodable, value_valid, value_passes, fit_test, value_bytes, message_written, TableKind, FieldRow, EnumRow, schema_kind, schema_field, is_repeated, PooledType, DynamicMessage, Value, Value-F, roll-Value, fold-roll-Value, ind-Value, pool_rows, known_of, ValueWritable, nested_bytes, value_step, message_step, value_of, content_of}
 use denote.Hole.Carrier as Carrier
 use Rattle.prost_reflect_wire.specs.declared.key.WireType.TheVariants as wires
 use Rattle.prost_reflect_wire.specs.Content as contents

@@ -1,6 +1,6 @@
 -- Extensions of a message's own type, and what their numbers are to it.
 use Rattle.std.specs.Prelude.{◌≡◌, ◌∷◌}
-use Rattle.prost_reflect_dynamic.proofs.Common.{ℕ, zero, suc, Bool, true, List, [], Option, Some, None, refl, ap, sym, ◌∙◌, AllByRecursion, option_map, option_and_then, is_some, slice_get, IfOk, IfSome, Result, AllocError, same_Some, field_of, passes, value_valid, fields_at, FieldRow, schema_field, extending_or_none, extension_where, fields_of, pool_rows, PooledType, rows_same, known_of, is_known, takes_at, IsOwnExtension, extension_takes, extension_named, extension_row_named, Extends, value_of, ExtensionDescriptor, MessageDescriptor, Value}
+use Rattle.prost_reflect_dynamic.proofs.Common.{ℕ, suc, Bool, true, List, [], Option, Some, None, refl, ap, sym, ◌∙◌, AllByRecursion, option_map, option_and_then, is_some, slice_get, IfOk, IfSome, Result, AllocError, same_Some, field_of, passes, value_valid, fields_at, FieldRow, schema_field, extending_or_none, extension_where, fields_of, pool_rows, PooledType, rows_same, known_of, is_known, takes_at, IsOwnExtension, extension_takes, extension_named, extension_row_named, Extends, value_of, ExtensionDescriptor, MessageDescriptor, Value}
 use Rattle.prost_reflect_tables.specs.CatalogRows.{ExtensionRow, MessageListsRow}
 use Rattle.prost_reflect_pool.specs.Pools.{pool_catalog}
 use Rattle.prost_reflect_pool.proofs.ExtensionPlaces.{FoundExtension, extension_found as place_found, extending_there}

@@ -1,6 +1,6 @@
 -- The content of what is stored, and what each change makes of it.
 use Rattle.std.specs.Prelude.{◌≡◌, ◌++◌, ◌∷◌}
-use Rattle.prost_reflect_dynamic.proofs.Common.{ℕ, Bool, true, false, cond, nat_eq, List, [], Option, Some, None, refl, ap, sym, ◌∙◌, subst, unwrap_or, eqb-true, eqb-false, option_map, option_and_then, is_some, nat_cmp, is_at, IsStrictlySortedBy, keys_of, Record, Field, known, field_of, is_sibling, passes, Content, ContentOf, Entries, Slot, slot_at, changed, entries_of, with_value, with_field_value, cleared, empty_slot, slots_same, eqb-sym, field_number, FieldSlot, PooledType, DynamicMessage, Value, roll-DynamicMessage, schema_at, type_at, IsAscending, item_at, known_of, is_known, are_siblings, Sound, set_value_at, prepared, value_of, content_of, entries_from, payloads_of, overwritten_at, written_at, value_set, value_cleared, with_unknown, unknown_added, value_without, records_without, ascending_without_values, ascending_put}
+use Rattle.prost_reflect_dynamic.proofs.Common.{ℕ, Bool, true, false, cond, nat_eq, List, [], Option, Some, None, refl, ap, sym, ◌∙◌, subst, unwrap_or, eqb-true, eqb-false, option_map, option_and_then, is_some, nat_cmp, is_at, IsStrictlySortedBy, keys_of, Record, Field, known, field_of, is_sibling, passes, Content, ContentOf, Slot, slot_at, entries_of, with_value, with_field_value, cleared, empty_slot, slots_same, eqb-sym, field_number, FieldSlot, PooledType, DynamicMessage, Value, roll-DynamicMessage, schema_at, type_at, IsAscending, item_at, known_of, is_known, are_siblings, Sound, set_value_at, prepared, value_of, content_of, entries_from, payloads_of, overwritten_at, written_at, value_set, value_cleared, with_unknown, unknown_added, value_without, records_without, ascending_without_values, ascending_put}
 use Rattle.prost_reflect_wire.specs.Content as contents
 use Rattle.prost_reflect_fields.specs.declared.slot.FieldSlot.TheVariants as entries
 use Rattle.prost_reflect_fields.specs.FieldSlots.{value_in, records_in, stored_at, records_at, has_value, put_value, clear_value, with_value as with_value_at, SameStored, UnknownAdded}

@@ -1,6 +1,6 @@
 -- What values and messages store, by variant, and the content that follows from it.
 use Rattle.std.specs.Prelude.{◌≡◌, ◌&&◌, ◌∷◌, ◌↔◌, String as Text}
-use Rattle.prost_reflect_dynamic.proofs.Common.{ℕ, Bool, true, false, not, nat_eq, List, [], map, refl, ap, ap₂, sym, subst, ◌∙◌, string_bytes, true≢false, ne_eqb, Decides-and, Decides, Global, IsTrue, Vec, BTreeMap, unsigned_Decides, scalar_eq, body_of, records_of, Content, TableRows, rows_eq, pool_rows, pool_contents, contents_eq, contents_decide, SameMessage, rows_follow, PooledType, FieldSlot, MapKey, Value, Value-F, DynamicMessage-F, roll-Value, roll-DynamicMessage, fold-roll-Value, fold-roll-DynamicMessage, fold_out-DynamicMessage, DynamicMessage, slot_former, message_type_of, stored_in, key_of, StoredMessage, StoredEntries, NothingStored, StoredValue, StoredScalar, StoredInside, StoredList, StoredMap, ItemThen, PairThen, stored_items, stored_pairs, stored_entry, stored_entries, stored_step, stored_message_step, value_stored, message_stored, same_message, same_value, same_items, same_pairs, same_entries, equal_values, equal_messages}
+use Rattle.prost_reflect_dynamic.proofs.Common.{ℕ, Bool, true, false, not, nat_eq, List, [], map, refl, ap, ap₂, sym, subst, ◌∙◌, string_bytes, true≢false, ne_eqb, Decides-and, Decides, Global, IsTrue, Vec, BTreeMap, unsigned_Decides, body_of, records_of, Content, TableRows, rows_eq, pool_rows, pool_contents, contents_eq, contents_decide, SameMessage, rows_follow, PooledType, FieldSlot, MapKey, Value, Value-F, DynamicMessage-F, roll-Value, roll-DynamicMessage, fold-roll-Value, fold-roll-DynamicMessage, fold_out-DynamicMessage, DynamicMessage, slot_former, message_type_of, stored_in, key_of, StoredMessage, StoredEntries, NothingStored, StoredValue, StoredScalar, StoredInside, StoredList, StoredMap, ItemThen, PairThen, stored_items, stored_pairs, stored_entry, stored_entries, stored_step, stored_message_step, value_stored, message_stored, same_message, same_value, same_items, same_pairs, same_entries, equal_values, equal_messages}
 use Rattle.std.specs.Cmp.Lexicographic.{pointwise, texts_ties}
 use mathlib.Core.Former.{this}
 use denote.Hole.Carrier as Carrier

@@ -1,12 +1,12 @@
-//! A field and an extension of each kind, asked, taken, set and lent.
+//! A field and an extension of each kind, merged, listed, asked, taken, set and lent.
 
 use crate::fields::types::message_type;
 use prost_reflect::{
-    DynamicMessage, ExtensionDescriptor, FieldDescriptor, MessageDescriptor, Value,
+    DynamicMessage, ExtensionDescriptor, FieldDescriptor, MessageDescriptor, Present, Value,
 };
 use prost_reflect_samples::every::{Row, extensions, fields};
 use prost_reflect_samples::{leaked, sets};
-use std::alloc::Global;
+use std::alloc::{AllocError, Global};
 use std::borrow::Cow;
 use std::test::Fail;
 
@@ -110,6 +110,83 @@ fn goes_by_extension(
     Ok(is_taken && is_set && lends(alloc, message, extension, value)?)
 }
 
+/// Whether the bytes are merged into a new message of the type as the whole one.
+fn merges(
+    alloc: Global,
+    every: &MessageDescriptor,
+    whole: &DynamicMessage,
+    bytes: &[u8],
+) -> Result<bool, Fail> {
+    let mut message = DynamicMessage::new(alloc, every.clone()?);
+    message.merge(bytes)?;
+    Ok(message == *whole)
+}
+
+/// Whether what is present is one field or extension, which has the number.
+fn is_present(message: &DynamicMessage, number: u32) -> Result<bool, AllocError> {
+    let (mut count, mut all) = (0_usize, true);
+    for item in message.present() {
+        let present = item?;
+        all &= match &present {
+            Present::Field(field, _) => field.number() == number,
+            Present::Extension(extension, _) => extension.number() == number,
+            Present::Unknown(_, _) => false,
+        };
+        count = count.wrapping_add(1);
+    }
+    Ok(all && count == 1)
+}
+
+/// Whether one field or extension is listed, which has the number.
+fn is_listed(message: &DynamicMessage, number: u32) -> Result<bool, AllocError> {
+    let (mut count, mut all) = (0_usize, true);
+    for item in message.fields() {
+        all &= item?.0.number() == number;
+        count = count.wrapping_add(1);
+    }
+    for item in message.extensions() {
+        all &= item?.0.number() == number;
+        count = count.wrapping_add(1);
+    }
+    Ok(all && count == 1)
+}
+
+/// Whether one field or extension is taken with all of its sort, which has the number, and then nothing is left.
+fn gives_all(
+    alloc: Global,
+    whole: &DynamicMessage,
+    empty: &DynamicMessage,
+    number: u32,
+) -> Result<bool, Fail> {
+    let message = leaked(alloc, whole.clone()?)?;
+    let (mut count, mut all) = (0_usize, true);
+    for (field, value) in message.take_fields(alloc)? {
+        all &= field.number() == number && value.is_valid_for_field(&field);
+        count = count.wrapping_add(1);
+    }
+    for (extension, value) in message.take_extensions(alloc)? {
+        all &= extension.number() == number && value.is_valid_for_extension(&extension);
+        count = count.wrapping_add(1);
+    }
+    Ok(all && count == 1 && *message == *empty)
+}
+
+/// Whether the row's field or extension is merged, is all that is listed and present, and is taken with all others.
+fn goes_alone(
+    alloc: Global,
+    every: &MessageDescriptor,
+    whole: &DynamicMessage,
+    empty: &DynamicMessage,
+    row: &Row,
+) -> Result<bool, Fail> {
+    Ok(
+        merges(alloc, every, whole, row.1)?
+            && is_listed(whole, row.0)?
+            && is_present(whole, row.0)?
+            && gives_all(alloc, whole, empty, row.0)?,
+    )
+}
+
 /// Whether the row's field goes in each way.
 fn field_goes(alloc: Global, every: &MessageDescriptor, row: &Row) -> Result<bool, Fail> {
     let whole = leaked(alloc, DynamicMessage::decode(alloc, every.clone()?, row.1)?)?;
@@ -117,7 +194,8 @@ fn field_goes(alloc: Global, every: &MessageDescriptor, row: &Row) -> Result<boo
     let found = every.get_field(row.0)?.ok_or("no such field")?;
     let field = leaked(alloc, found)?;
     Ok(
-        goes_by_number(alloc, whole, empty, row.0)?
+        goes_alone(alloc, every, whole, empty, row)?
+            && goes_by_number(alloc, whole, empty, row.0)?
             && goes_by_name(alloc, whole, empty, field.name())?
             && goes_by_descriptor(alloc, whole, empty, field)?,
     )
@@ -129,7 +207,10 @@ fn extension_goes(alloc: Global, every: &MessageDescriptor, row: &Row) -> Result
     let empty = leaked(alloc, DynamicMessage::new(alloc, every.clone()?))?;
     let found = every.get_extension(row.0)?.ok_or("no such extension")?;
     let extension = leaked(alloc, found)?;
-    goes_by_extension(alloc, whole, empty, extension)
+    Ok(
+        goes_alone(alloc, every, whole, empty, row)?
+            && goes_by_extension(alloc, whole, empty, extension)?,
+    )
 }
 
 #[test]

@@ -69,14 +69,16 @@ fn a_field_is_changed(rt: HostRuntime) -> Result<(), Fail> {
     Ok(())
 }
 
-/// Whether the message may be written, and is written behind a 7 that is there.
+/// Whether the message may be written, and is written behind 2000 bytes that are there.
 fn is_appended(alloc: Global, message: &DynamicMessage) -> Result<bool, Fail> {
     if !message.is_encodable() {
         return Ok(false);
     }
-    let out = leaked(alloc, Vec::from_slice(alloc, &[7])?)?;
+    let out = leaked(alloc, vec![in alloc; 7; 2000]?)?;
+    let expected = leaked(alloc, vec![in alloc; 7; 2000]?)?;
     message.encode(out)?;
-    Ok(out.as_slice() == [7, 0x28, 0x96, 1, 0x50, 3].as_slice())
+    expected.extend_from_slice(&[0x28, 0x96, 1, 0x50, 3])?;
+    Ok(out.as_slice() == expected.as_slice())
 }
 
 /// Whether the message is written alone, and behind what is there.

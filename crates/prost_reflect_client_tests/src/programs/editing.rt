@@ -7,7 +7,7 @@ ghost use Rattle.prost_reflect_dynamic.specs.View.{message_type_of};
 ghost use Rattle.prost_reflect_fields.specs.Known.{known_of, are_siblings};
 
 use crate::programs::error::ClientError;
-use prost_reflect::{DynamicMessage, MessageDescriptor, Value, laws};
+use prost_reflect::{DynamicMessage, ExtensionDescriptor, MessageDescriptor, Value, laws};
 use std::alloc::{AllocError, Global};
 
 /// Reads and writes.
@@ -72,6 +72,81 @@ pub fn make_and_write(
     let mut message = DynamicMessage::new(alloc, message_type);
     message.try_set_field_by_number(5, Value::I32(7))?;
     Ok(message.encode_to_vec(alloc)?)
+}
+
+/// Reads two messages, sets the one as a field of the other, and writes that.
+pub fn nest_and_write(
+    alloc: Global,
+    outer: MessageDescriptor,
+    inner: MessageDescriptor,
+    bytes: &[u8],
+) -> Result<Vec<u8>, ClientError> {
+    let inside = DynamicMessage::decode(alloc, inner, bytes)?;
+    let mut message = DynamicMessage::new(alloc, outer);
+    message.try_set_field_by_number(5, Value::Message(inside))?;
+    Ok(message.encode_to_vec(alloc)?)
+}
+
+/// Makes a message and writes it at once.
+pub fn make_and_write_nothing(
+    alloc: Global,
+    message_type: MessageDescriptor,
+) -> Result<Vec<u8>, ClientError> {
+    Ok(DynamicMessage::new(alloc, message_type).encode_to_vec(alloc)?)
+}
+
+/// Reads, clears an extension if it is the message's own, takes all fields and all unknown fields, and writes.
+pub fn take_all_and_write(
+    alloc: Global,
+    message_type: MessageDescriptor,
+    bytes: &[u8],
+    extension: &ExtensionDescriptor,
+) -> Result<Vec<u8>, ClientError> {
+    let mut message = DynamicMessage::decode(alloc, message_type, bytes)?;
+    if message.owns_extension(extension) {
+        message.clear_extension(extension);
+    }
+    drop(message.take_fields(alloc)?);
+    drop(message.take_unknown_fields(alloc)?);
+    Ok(message.encode_to_vec(alloc)?)
+}
+
+/// Reads and merges twice.
+pub fn merge_twice(
+    alloc: Global,
+    message_type: MessageDescriptor,
+    bytes: &[u8],
+    more: &[u8],
+) -> Result<DynamicMessage, ClientError> {
+    let mut message = DynamicMessage::decode(alloc, message_type, bytes)?;
+    message.merge(more)?;
+    message.merge(more)?;
+    Ok(message)
+}
+
+/// The options of a message type without the field of a number, and with what the bytes say besides; they are written.
+pub fn options_changed(
+    alloc: Global,
+    message_type: &MessageDescriptor,
+    number: u32,
+    more: &[u8],
+) -> Result<Vec<u8>, ClientError> {
+    let Ok(mut options) = message_type.options() else {
+        return Ok(Vec::new(alloc));
+    };
+    options.clear_field_by_number(number);
+    options.merge(more)?;
+    Ok(options.encode_to_vec(alloc)?)
+}
+
+/// Merges into a message that was made by others, if it may be.
+pub fn test_and_merge(message: &mut DynamicMessage, more: &[u8]) -> Result<bool, ClientError> {
+    message.clear_field_by_number(5);
+    let is_whole = message.is_encodable() && message.is_typed();
+    if is_whole {
+        message.merge(more)?;
+    }
+    Ok(is_whole)
 }
 
 /// Reads, clears a field and merges.
@@ -147,6 +222,32 @@ pub fn set_default(
     if let Some(field) = descriptor.get_field_by_name(name)? {
         let value = field.default_value(alloc)?;
         message.set_field(&field, value)?;
+    }
+    Ok(())
+}
+
+/// Sets a field of the message's own type to a value, if that fits it.
+pub fn set_own(message: &mut DynamicMessage, name: &str, value: Value) -> Result<(), AllocError> {
+    let descriptor = message.descriptor()?;
+    if let Some(field) = descriptor.get_field_by_name(name)? {
+        if value.is_valid_for_field(&field) {
+            message.set_field(&field, value)?;
+        }
+    }
+    Ok(())
+}
+
+/// Sets the field of a name to a value, if that fits the field that the message's own type has of the name.
+pub fn set_named_where_it_fits(
+    message: &mut DynamicMessage,
+    name: &str,
+    value: Value,
+) -> Result<(), AllocError> {
+    let descriptor = message.descriptor()?;
+    if let Some(field) = descriptor.get_field_by_name(name)? {
+        if value.is_valid_for_field(&field) {
+            message.set_field_by_name(name, value)?;
+        }
     }
     Ok(())
 }

@@ -3,6 +3,7 @@
 use crate::programs::error::ClientError;
 use prost_reflect::{DynamicMessage, Value};
 use std::alloc::{AllocError, Global};
+use std::borrow::Cow;
 
 /// How many messages there are, in fields and extensions, lists and maps, at every depth.
 #[cycle(counting)]
@@ -110,6 +111,48 @@ pub fn clear_before(
     if message.has_field_by_name(path) {
         if let Value::Message(inside) = message.get_field_by_name_mut(alloc, path)? {
             clear_before(alloc, inside, path, name)?;
+        }
+    }
+    Ok(())
+}
+
+/// How many messages stand one inside the next in the fields of a number; each is taken out of the one around it.
+pub fn levels_taken(message: &mut DynamicMessage, number: u32) -> u32 {
+    let Some(value) = message.take_field_by_number(number) else {
+        return 0;
+    };
+    match value {
+        Value::Message(mut inside) => levels_taken(&mut inside, number).saturating_add(1),
+        _ => 0,
+    }
+}
+
+/// How many messages stand one inside the next in the fields of a number, as each shows them.
+pub fn levels_shown(
+    alloc: Global,
+    message: &DynamicMessage,
+    number: u32,
+) -> Result<u32, AllocError> {
+    if let Some(Cow::Borrowed(value)) = message.get_field_by_number(alloc, number)? {
+        if let Some(inside) = value.as_message() {
+            return Ok(levels_shown(alloc, inside, number)?.saturating_add(1));
+        }
+    }
+    Ok(0)
+}
+
+/// Clears the field of a number in the message that the value is, and in each inside of its fields of another number.
+pub fn clear_in_value(
+    alloc: Global,
+    value: &mut Value,
+    path: u32,
+    number: u32,
+) -> Result<(), ClientError> {
+    if let Some(message) = value.as_message_mut() {
+        message.clear_field_by_number(number);
+        if message.has_field_by_number(path) {
+            let inside = message.get_field_by_number_mut(alloc, path)?;
+            clear_in_value(alloc, inside, path, number)?;
         }
     }
     Ok(())
