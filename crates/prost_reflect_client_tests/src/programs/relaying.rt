@@ -1,7 +1,8 @@
 //! Bytes that are changed by an older type, for those who know a newer one.
 
-ghost use Rattle.std.specs.Prelude.{IfOk, IfSome};
+ghost use Rattle.std.specs.Prelude.{◌↔◌, IfOk, IfSome, IsTrue, is_some};
 ghost use Rattle.prost_reflect_wire.specs.Grammar.{Accepts, LEVEL_LIMIT};
+ghost use Rattle.prost_reflect_wire.specs.Reduction.{Reduced};
 ghost use Rattle.prost_reflect.specs.Edits.{MeansEdited};
 ghost use Rattle.prost_reflect_dynamic.specs.Named.{schema_named, type_named};
 ghost use Rattle.prost_reflect_dynamic.specs.View.{value_of};
@@ -19,7 +20,8 @@ pub fn edit_for_newer(
     path: &[u32],
     value: Value,
 ) -> Result<Option<Vec<u8>>, RelayWithError>
-    ensures { IfOk result (λ found. IfSome found (λ written. Accepts (schema_named newer.now) LEVEL_LIMIT (type_named newer.now) bytes.now → MeansEdited (schema_named newer.now) (type_named newer.now) bytes.now path.now (value_of value) written.items)) }
+    ensures decides { IfOk result (λ found. Reduced (schema_named older.now) (type_named older.now) (schema_named newer.now) (type_named newer.now) ↔ IsTrue (is_some found)) }
+    ensures passes { IfOk result (λ found. IfSome found (λ written. Accepts (schema_named newer.now) LEVEL_LIMIT (type_named newer.now) bytes.now → MeansEdited (schema_named newer.now) (type_named newer.now) bytes.now path.now (value_of value) written.items)) }
 {
     if !older.is_reduction_of(newer)? {
         return Ok(None);
