@@ -1,1 +1,3 @@
 mod Common
+mod Outlines
+mod Paired

@@ -1,1 +1,3 @@
 pub mod GatheredLists
+pub mod Meanings
+pub mod Outlines

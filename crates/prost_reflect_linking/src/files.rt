@@ -98,7 +98,7 @@ fn dependency_places(
     requires { IsIndexOf index.now (file_names (file_list files.now)) }
     ensures { IfOk result (λ v. v.items ≡ map (λ d. file_place (file_names (file_list files.now)) (string_bytes d)) dependencies.now) }
 {
-    let mut places = Vec::new(alloc);
+    let mut places = Vec::with_capacity(alloc, dependencies.len())?;
     for dependency in dependencies {
         places.push(file_place(index, files, dependency.as_str()))?;
     }
@@ -119,7 +119,7 @@ fn public_places(
 ) -> Result<Vec<usize>, AllocError>
     ensures { IfOk result (λ v. v.items ≡ map (import_at dependencies.now) indices.now) }
 {
-    let mut places = Vec::new(alloc);
+    let mut places = Vec::with_capacity(alloc, indices.len())?;
     for index in indices {
         places.push(import_at(dependencies, *index))?;
     }
@@ -171,7 +171,7 @@ pub fn linked_files(
     let names = file_names(alloc, files)?;
     let index = index_of(alloc, names.as_slice())?;
     let tops = top_places(alloc, files.len(), flat)?;
-    let mut tables = Vec::new(alloc);
+    let mut tables = Vec::with_capacity(alloc, files.len())?;
     for (place, file) in files.iter().enumerate() {
         tables.push(file_table(alloc, &index, files, flat, &tops, place, file)?)?;
     }

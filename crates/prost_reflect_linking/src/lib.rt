@@ -15,8 +15,11 @@ mod gather;
 mod identity;
 mod link;
 mod lists;
+mod meaning;
 mod order;
 mod services;
 
-pub use catalog::linked_catalog;
+pub use catalog::{Outline, linked_catalog, outlined};
+pub use extensions::Extended;
 pub use link::linked;
+pub use meaning::{Meaning, meanings, meanings_by_message};

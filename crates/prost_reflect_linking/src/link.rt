@@ -1,24 +1,27 @@
 //! Linking: the tables that files in flat lists give.
 
-ghost use Rattle.std.specs.Prelude.{◌≡◌, ◌<◌, length, IfOk, OnOk, map, true, false};
+ghost use Rattle.std.specs.Prelude.{◌≡◌, ◌<◌, length, IfOk, OnOk, map, option_map, true, false};
 ghost use Rattle.std.specs.List.{list_all};
 ghost use Rattle.std.specs.List.Sorted.{IsNonDecreasingBy};
 ghost use Rattle.prost_reflect_wire.specs.Scalar.{in_i32};
-ghost use Rattle.prost_reflect_tables.specs.Rows.{identity_row, field_row, oneof_row, message_row, enum_value_row, enum_row, rows_from};
+ghost use Rattle.prost_reflect_tables.specs.Rows.{boxed_scalar, written_scalar, identity_row, field_row, oneof_row, message_row, enum_value_row, enum_row, rows_from};
 ghost use Rattle.prost_reflect_tables.specs.declared.tables.FieldTable.{FieldTable};
 ghost use Rattle.prost_reflect_tables.specs.FlatViews.{definition_row, flat_rows};
 ghost use Rattle.prost_reflect_tables.specs.FlatViews as flat_views;
-ghost use Rattle.prost_reflect_tables.specs.Linking.{natural_or_zero, place_in, is_message, is_packable, cardinality_of_label, linked_packed, linked_presence, linked_identity, linked_field, in_order, declared_fields, oneof_place, member_place, oneofs_from, linked_message, linked_value, linked_enum, linked_rows};
+ghost use Rattle.prost_reflect_tables.specs.Linking.{natural_or_zero, place_in, is_message, is_packable, cardinality_of_label, linked_packed, linked_presence, linked_identity, linked_field, in_order, declared_fields, oneof_place, member_place, oneofs_from, linked_message, linked_value, linked_enum, linked_rows, links_of};
 ghost use Rattle.prost_reflect_tables.specs.EntryFaults.{is_entry};
 ghost use Rattle.prost_reflect_tables.specs.InRange.{enum_in_range, in_range};
-ghost use Rattle.prost_reflect_tables.specs.Resolved.{resolved_row, resolved_lists, resolved_field, IsResolved};
+ghost use Rattle.prost_reflect_linking.specs.Meanings.{AreMeaningsOf, all_meant, field_meant, meaning_lists, meaning_row, meant, messages_meant};
+ghost use Rattle.prost_reflect_tables.specs.Resolved.{resolve};
+ghost use Rattle.std.specs.List.{zip};
 ghost use Rattle.prost_reflect_tables.specs.Indexing.{empty_lists, with_item, grouped, list_rows, messages_with};
 
 use crate::identity::{json_name, lent_identity, linked_identity};
+use crate::meaning::Meaning;
 use prost_reflect_tables::{
     Cardinality, Definition, EnumTable, EnumValueTable, FieldTable, Flat, FlatEnum, FlatMessage,
-    MessageTable, OneofTable, Resolved, ResolvedField, TableKind, bool_option, is_packable,
-    natural_or_zero, place_in,
+    MessageTable, OneofTable, TableKind, WrittenDefault, bool_option, is_packable, natural_or_zero,
+    place_in,
 };
 use prost_reflect_types::{EnumValueDescriptorProto, FieldDescriptorProto, OneofDescriptorProto};
 use std::alloc::{AllocError, Global};
@@ -71,19 +74,33 @@ fn linked_presence(
             || field.proto3_optional.unwrap_or(false))
 }
 
+/// A copy of a default that stands apart from its row.
+fn boxed_default(
+    alloc: Global,
+    default: &Option<WrittenDefault>,
+) -> Result<Option<Box<WrittenDefault>>, AllocError>
+    ensures { IfOk result (λ b. option_map boxed_scalar b ≡ option_map written_scalar default.now) }
+{
+    match default {
+        Some(default) => Ok(Some(Box::new(alloc, default.clone()?)?)),
+        None => Ok(None),
+    }
+}
+
 /// A field or an extension.
-#[tactic(auto, unfolding(prost_reflect_tables::specs::Resolved::resolved_field))]
+#[tactic(auto, unfolding(crate::specs::Meanings::field_meant))]
 fn linked_field(
     alloc: Global,
     is_extension: bool,
-    resolved: &ResolvedField,
+    definition: &Definition<FieldDescriptorProto>,
+    meaning: &Meaning,
 ) -> Result<FieldTable, AllocError>
-    ensures { IfOk result (λ f. field_row f ≡ resolved_field is_extension (resolved_row resolved.now)) }
+    ensures { IfOk result (λ f. field_row f ≡ field_meant is_extension (definition_row definition.now, meaning_row meaning.now)) }
 {
-    let definition = &resolved.definition;
+    let definition = &definition.lend();
     let field = definition.proto;
     let is_proto3 = definition.is_proto3;
-    let kind = resolved.kind;
+    let kind = meaning.kind;
     let cardinality = cardinality_of_label(natural_or_zero(field.label));
     Ok(FieldTable {
         id: lent_identity(alloc, definition, &field.name)?,
@@ -95,41 +112,46 @@ fn linked_field(
         cardinality,
         is_packed: linked_packed(is_proto3, field, cardinality, kind),
         supports_presence: linked_presence(is_proto3, is_extension, field, cardinality, kind),
-        default: resolved.default.clone()?,
+        default: boxed_default(alloc, &meaning.default)?,
         oneof: place_in(field.oneof_index),
     })
 }
 
 /// The fields that a message declares, in the order of their declaration.
-fn declared_fields(alloc: Global, resolved: &[ResolvedField]) -> Result<Vec<FieldTable>, AllocError>
-    ensures { IfOk result (λ v. map field_row v.items ≡ map (resolved_field false) (map resolved_row resolved.now)) }
+fn declared_fields(
+    alloc: Global,
+    definitions: &[Definition<FieldDescriptorProto>],
+    meanings: &[Meaning],
+) -> Result<Vec<FieldTable>, AllocError>
+    ensures { IfOk result (λ v. map field_row v.items ≡ map (field_meant false) (zip (map definition_row definitions.now) (map meaning_row meanings.now))) }
 {
-    let mut fields = Vec::new(alloc);
-    for field in resolved {
-        fields.push(linked_field(alloc, false, field)?)?;
+    let mut fields = Vec::with_capacity(alloc, definitions.len())?;
+    for (definition, meaning) in definitions.iter().zip(meanings) {
+        fields.push(linked_field(alloc, false, definition, meaning)?)?;
     }
     Ok(fields)
 }
 
-/// The declared fields of each message.
-fn declared_by_message(
+/// The fields that a message declares, and its extensions behind them.
+fn all_fields(
     alloc: Global,
-    resolved: &[Vec<ResolvedField>],
-) -> Result<Vec<Vec<FieldTable>>, AllocError>
-    ensures { IfOk result (λ v. list_rows v.items ≡ map (λ fields. map (resolved_field false) fields) (resolved_lists resolved.now)) }
+    definitions: &[Definition<FieldDescriptorProto>],
+    meanings: &[Meaning],
+    extensions: Vec<FieldTable>,
+) -> Result<Vec<FieldTable>, AllocError>
+    ensures { IfOk result (λ v. map field_row v.items ≡ all_meant (map definition_row definitions.now) (map meaning_row meanings.now) (map field_row extensions.items)) }
 {
-    let mut lists = Vec::new(alloc);
-    for fields in resolved {
-        lists.push(declared_fields(alloc, fields.as_slice())?)?;
-    }
-    Ok(lists)
+    let mut fields = declared_fields(alloc, definitions, meanings)?;
+    let mut extensions = extensions;
+    fields.append(&mut extensions)?;
+    Ok(fields)
 }
 
 /// So many empty lists.
 pub fn empty_lists<T: Drop>(alloc: Global, count: usize) -> Result<Vec<Vec<T>>, AllocError>
     ensures { IfOk result (λ v. map (λ xs. xs.items) v.items ≡ empty_lists count) }
 {
-    let mut lists = Vec::new(alloc);
+    let mut lists = Vec::with_capacity(alloc, count)?;
     for _ in 0..count {
         lists.push(Vec::new(alloc))?;
     }
@@ -152,17 +174,18 @@ pub fn add_item<T: Drop>(
     Ok(())
 }
 
-/// Adds each extension to the fields of the message that it extends.
+/// Adds each extension to the list of the message that it extends.
 fn add_extensions(
     alloc: Global,
     lists: &mut Vec<Vec<FieldTable>>,
-    extensions: &[ResolvedField],
+    definitions: &[Definition<FieldDescriptorProto>],
+    meanings: &[Meaning],
 ) -> Result<(), AllocError>
-    ensures { OnOk result (list_rows lists.new.items ≡ grouped (λ r. r.extendee) (resolved_field true) (map resolved_row extensions.now) 0 (list_rows lists.old.items)) }
+    ensures { OnOk result (list_rows lists.new.items ≡ grouped (λ p. p.1.extendee) (field_meant true) (zip (map definition_row definitions.now) (map meaning_row meanings.now)) 0 (list_rows lists.old.items)) }
 {
-    for extension in extensions {
-        let field = linked_field(alloc, true, extension)?;
-        add_item(lists, extension.extendee, field)?;
+    for (definition, meaning) in definitions.iter().zip(meanings) {
+        let field = linked_field(alloc, true, definition, meaning)?;
+        add_item(lists, meaning.extendee, field)?;
     }
     Ok(())
 }
@@ -229,7 +252,7 @@ fn linked_oneofs(
 {
     let count = oneofs.len();
     let members = members_by_oneof(alloc, count, fields, declared)?;
-    let mut tables = Vec::new(alloc);
+    let mut tables = Vec::with_capacity(alloc, count)?;
     for (place, definition) in oneofs.iter().enumerate() {
         let places = members[place].as_slice();
         tables.push(linked_oneof(alloc, definition, places)?)?;
@@ -249,6 +272,7 @@ fn linked_message(
     ensures { IfOk result (λ m. message_row m ≡ linked_message (map field_row fields.items) (flat_views.message_row message.now)) }
 {
     let mut fields = fields;
+    fields.shrink_to_fit();
     sort_by_number(&mut fields)?;
     let oneofs = linked_oneofs(
         alloc,
@@ -265,21 +289,25 @@ fn linked_message(
     })
 }
 
-/// Each message with its fields and extensions; the flags say which are entries of maps.
+/// Each message with its fields and extensions; the flags say which are entries of maps. What flat lists have of a message is let
+/// go as soon as its rows are made.
 fn linked_messages(
     alloc: Global,
-    lists: Vec<Vec<FieldTable>>,
-    messages: &[FlatMessage],
+    messages: Vec<FlatMessage>,
+    extensions: Vec<Vec<FieldTable>>,
+    meanings: Vec<Vec<Meaning>>,
     entries: &[bool],
 ) -> Result<Vec<MessageTable>, AllocError>
-    requires lists { length lists.items ≡ length messages.now }
-    requires entries { entries.now ≡ map is_entry (map flat_views.message_row messages.now) }
-    ensures { IfOk result (λ v. map message_row v.items ≡ messages_with (list_rows lists.items) (map flat_views.message_row messages.now)) }
+    requires extensions { length extensions.items ≡ length messages.items }
+    requires meanings { length meanings.items ≡ length messages.items }
+    requires entries { entries.now ≡ map is_entry (map flat_views.message_row messages.items) }
+    ensures { IfOk result (λ v. map message_row v.items ≡ messages_meant (list_rows extensions.items) (meaning_lists meanings.items) (map flat_views.message_row messages.entry.items)) }
 {
-    let mut tables = Vec::new(alloc);
-    for (place, fields) in lists.into_iter().enumerate() {
-        let is_map_entry = entries[place];
-        tables.push(linked_message(alloc, &messages[place], is_map_entry, fields)?)?;
+    let mut tables = Vec::with_capacity(alloc, messages.len())?;
+    let items = messages.into_iter().zip(extensions).zip(meanings);
+    for (place, ((message, extensions), own)) in items.enumerate() {
+        let fields = all_fields(alloc, message.fields.as_slice(), own.as_slice(), extensions)?;
+        tables.push(linked_message(alloc, &message, entries[place], fields)?)?;
     }
     Ok(tables)
 }
@@ -306,7 +334,7 @@ fn linked_values(
     ensures rows { IfOk result (λ v. map enum_value_row v.items ≡ map linked_value (map definition_row values.now)) }
     ensures range { IfOk result (λ v. list_all in_i32 (map (λ w. w.number) (map enum_value_row v.items)) ≡ true) }
 {
-    let mut tables = Vec::new(alloc);
+    let mut tables = Vec::with_capacity(alloc, values.len())?;
     for value in values {
         tables.push(linked_value(alloc, value)?)?;
     }
@@ -318,7 +346,7 @@ fn linked_enums(alloc: Global, enums: &[FlatEnum]) -> Result<Vec<EnumTable>, All
     ensures rows { IfOk result (λ v. map enum_row v.items ≡ map linked_enum (map flat_views.enum_row enums.now)) }
     ensures range { IfOk result (λ v. list_all enum_in_range (map enum_row v.items) ≡ true) }
 {
-    let mut tables = Vec::new(alloc);
+    let mut tables = Vec::with_capacity(alloc, enums.len())?;
     for item in enums {
         tables.push(EnumTable {
             id: linked_identity(alloc, &item.definition, &item.definition.proto.name)?,
@@ -331,28 +359,28 @@ fn linked_enums(alloc: Global, enums: &[FlatEnum]) -> Result<Vec<EnumTable>, All
 
 /// The message types and enums that files in flat lists give.
 ///
-/// What the texts of their fields mean was looked up by `check_files`. Messages and enums keep their places. The cost grows as
-/// n log n in the number of definitions.
+/// What the texts of their fields mean was looked up by `check_files`, and `meanings` and `meanings_by_message` have it. Messages
+/// and enums keep their places. The flat lists and the meanings are let go message by message, so that they do not stand beside
+/// all rows. The cost grows as n log n in the number of definitions.
 ///
 /// # Errors
 ///
 /// `AllocError` if out of memory.
 pub fn linked(
     alloc: Global,
-    flat: &Flat,
-    resolved: &Resolved,
+    flat: Flat,
+    fields: Vec<Vec<Meaning>>,
+    extensions: &[Meaning],
+    entries: &[bool],
 ) -> Result<(Vec<MessageTable>, Vec<EnumTable>), AllocError>
-    requires { IsResolved resolved.now (flat_rows flat.now) }
-    ensures rows { IfOk result (λ x. rows_from x.0.items x.1.items ≡ linked_rows (flat_rows flat.now)) }
+    requires fields { AreMeaningsOf fields.items (flat_rows flat) }
+    requires extensions { map meaning_row extensions.now ≡ map meant (map (resolve (links_of (flat_rows flat))) (flat_rows flat).extensions) }
+    requires entries { entries.now ≡ map is_entry (flat_rows flat).messages }
+    ensures rows { IfOk result (λ x. rows_from x.0.items x.1.items ≡ linked_rows (flat_rows flat.entry)) }
     ensures range { IfOk result (λ x. in_range (rows_from x.0.items x.1.items) ≡ true) }
 {
-    let mut lists = declared_by_message(alloc, resolved.fields.as_slice())?;
-    add_extensions(alloc, &mut lists, resolved.extensions.as_slice())?;
-    let messages = linked_messages(
-        alloc,
-        lists,
-        flat.messages.as_slice(),
-        resolved.entries.as_slice(),
-    )?;
+    let mut lists = empty_lists(alloc, flat.messages.len())?;
+    add_extensions(alloc, &mut lists, flat.extensions.as_slice(), extensions)?;
+    let messages = linked_messages(alloc, flat.messages, lists, fields, entries)?;
     Ok((messages, linked_enums(alloc, flat.enums.as_slice())?))
 }

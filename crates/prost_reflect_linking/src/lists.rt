@@ -2,6 +2,7 @@
 
 ghost use Rattle.std.specs.Prelude.{◌≡◌, ◌<◌, length, IfOk, map};
 ghost use Rattle.prost_reflect_tables.specs.CatalogRows.{message_lists_row, enum_lists_row};
+ghost use Rattle.prost_reflect_tables.specs.Flat.{FlatRows};
 ghost use Rattle.prost_reflect_tables.specs.FlatViews as flat_views;
 ghost use Rattle.prost_reflect_tables.specs.FlatViews.{definition_row, flat_rows, text_list};
 ghost use Rattle.prost_reflect_tables.specs.Gathered.{gathered};
@@ -9,14 +10,14 @@ ghost use Rattle.prost_reflect_linking.specs.GatheredLists.{AreInner};
 ghost use Rattle.prost_reflect_tables.specs.LinkedCatalog.{each_from, field_names, json_names, own_fields, linked_lists, value_names, enum_lists};
 ghost use Rattle.prost_reflect_tables.specs.Linking.{links_of, extended_place, value_number};
 ghost use Rattle.prost_reflect_tables.specs.Orders.{by_text};
-ghost use Rattle.prost_reflect_tables.specs.Resolved.{IsResolved};
+ghost use Rattle.prost_reflect_tables.specs.Resolved.{resolve, resolved_row};
 ghost use Rattle.prost_reflect_tables.specs.Rows.{field_row, message_row};
 
 use crate::gather::{gathered, list_at};
 use crate::order::{ordered_numbers, ordered_texts, sort_by_text};
 use prost_reflect_tables::{
     Definition, EnumLists, FieldTable, Flat, FlatEnum, FlatMessage, MessageLists, MessageTable,
-    Resolved, ResolvedField, text_or_empty,
+    ResolvedField, text_or_empty,
 };
 use prost_reflect_types::{EnumValueDescriptorProto, FieldDescriptorProto};
 use std::alloc::{AllocError, Global};
@@ -62,35 +63,43 @@ fn inner_extensions(alloc: Global, flat: &Flat) -> Result<Vec<Vec<usize>>, Alloc
     )?)
 }
 
-fn extending(alloc: Global, resolved: &Resolved, flat: &Flat) -> Result<Vec<Vec<usize>>, AllocError>
-    requires { IsResolved resolved.now (flat_rows flat.now) }
+fn extending(
+    alloc: Global,
+    extensions: &[ResolvedField],
+    flat: &Flat,
+) -> Result<Vec<Vec<usize>>, AllocError>
+    requires { map resolved_row extensions.now ≡ map (resolve (links_of (flat_rows flat.now))) (flat_rows flat.now).extensions }
     ensures { IfOk result (λ v. map (λ l. l.items) v.items ≡ gathered (extended_place (links_of (flat_rows flat.now))) (flat_rows flat.now).extensions 0 (length (flat_rows flat.now).messages)) }
 {
     let owner = |extension: &ResolvedField| extension.extendee;
-    Ok(gathered(
-        alloc,
-        flat.messages.len(),
-        resolved.extensions.as_slice(),
-        &owner,
-    )?)
+    Ok(gathered(alloc, flat.messages.len(), extensions, &owner)?)
 }
 
-fn inner_places(alloc: Global, resolved: &Resolved, flat: &Flat) -> Result<InnerPlaces, AllocError>
-    requires { IsResolved resolved.now (flat_rows flat.now) }
+/// What stands in each message, and what extends it.
+///
+/// # Errors
+///
+/// `AllocError` if out of memory.
+pub fn inner_places(
+    alloc: Global,
+    extensions: &[ResolvedField],
+    flat: &Flat,
+) -> Result<InnerPlaces, AllocError>
+    requires { map resolved_row extensions.now ≡ map (resolve (links_of (flat_rows flat.now))) (flat_rows flat.now).extensions }
     ensures { IfOk result (λ inner. AreInner inner (flat_rows flat.now)) }
 {
     Ok(InnerPlaces {
         messages: inner_messages(alloc, flat)?,
         enums: inner_enums(alloc, flat)?,
         extensions: inner_extensions(alloc, flat)?,
-        extending: extending(alloc, resolved, flat)?,
+        extending: extending(alloc, extensions, flat)?,
     })
 }
 
 fn field_names<'f>(alloc: Global, fields: &'f [FieldTable]) -> Result<Vec<&'f str>, AllocError>
     ensures { IfOk result (λ v. text_list v.items ≡ field_names (map field_row fields.now)) }
 {
-    let mut names = Vec::new(alloc);
+    let mut names = Vec::with_capacity(alloc, fields.len())?;
     for field in fields {
         names.push(field.id.name.as_str())?;
     }
@@ -100,7 +109,7 @@ fn field_names<'f>(alloc: Global, fields: &'f [FieldTable]) -> Result<Vec<&'f st
 fn json_names<'f>(alloc: Global, fields: &'f [FieldTable]) -> Result<Vec<&'f str>, AllocError>
     ensures { IfOk result (λ v. text_list v.items ≡ json_names (map field_row fields.now)) }
 {
-    let mut names = Vec::new(alloc);
+    let mut names = Vec::with_capacity(alloc, fields.len())?;
     for field in fields {
         names.push(field.json_name.as_str())?;
     }
@@ -111,12 +120,13 @@ fn json_names<'f>(alloc: Global, fields: &'f [FieldTable]) -> Result<Vec<&'f str
 fn own_fields(alloc: Global, fields: &[FieldTable]) -> Result<Vec<usize>, AllocError>
     ensures { IfOk result (λ v. v.items ≡ own_fields (map field_row fields.now)) }
 {
-    let mut places = Vec::new(alloc);
+    let mut places = Vec::with_capacity(alloc, fields.len())?;
     for (place, field) in fields.iter().enumerate() {
         if !field.is_extension {
             places.push(place)?;
         }
     }
+    places.shrink_to_fit();
     Ok(places)
 }
 
@@ -145,14 +155,14 @@ fn fields_by_json_name(alloc: Global, fields: &[FieldTable]) -> Result<Vec<usize
 
 fn message_lists(
     alloc: Global,
-    flat: &Flat,
     inner: &InnerPlaces,
     place: usize,
     message: &MessageTable,
 ) -> Result<MessageLists, AllocError>
-    requires inner { AreInner inner.now (flat_rows flat.now) }
-    requires place { place < length (flat_rows flat.now).messages }
-    ensures { IfOk result (λ l. message_lists_row l ≡ linked_lists (flat_rows flat.now) place (message_row message.now)) }
+    ghost rows: { FlatRows }
+    requires inner { AreInner inner.now rows }
+    requires place { place < length rows.messages }
+    ensures { IfOk result (λ l. message_lists_row l ≡ linked_lists rows place (message_row message.now)) }
 {
     Ok(MessageLists {
         messages: list_at(alloc, inner.messages.as_slice(), place)?,
@@ -172,18 +182,17 @@ fn message_lists(
 /// `AllocError` if out of memory.
 pub fn lists_of_messages(
     alloc: Global,
-    resolved: &Resolved,
-    flat: &Flat,
+    inner: &InnerPlaces,
     messages: &[MessageTable],
 ) -> Result<Vec<MessageLists>, AllocError>
-    requires resolved { IsResolved resolved.now (flat_rows flat.now) }
-    requires messages { length messages.now ≡ length (flat_rows flat.now).messages }
-    ensures { IfOk result (λ v. map message_lists_row v.items ≡ each_from (linked_lists (flat_rows flat.now)) 0 (map message_row messages.now)) }
+    ghost rows: { FlatRows }
+    requires inner { AreInner inner.now rows }
+    requires messages { length messages.now ≡ length rows.messages }
+    ensures { IfOk result (λ v. map message_lists_row v.items ≡ each_from (linked_lists rows) 0 (map message_row messages.now)) }
 {
-    let inner = inner_places(alloc, resolved, flat)?;
-    let mut lists = Vec::new(alloc);
+    let mut lists = Vec::with_capacity(alloc, messages.len())?;
     for (place, message) in messages.iter().enumerate() {
-        lists.push(message_lists(alloc, flat, &inner, place, message)?)?;
+        lists.push(message_lists(alloc, inner, place, message)?)?;
     }
     Ok(lists)
 }
@@ -196,7 +205,7 @@ fn value_names<'f>(
 ) -> Result<Vec<&'f str>, AllocError>
     ensures { IfOk result (λ v. text_list v.items ≡ value_names (map definition_row values.now)) }
 {
-    let mut names = Vec::new(alloc);
+    let mut names = Vec::with_capacity(alloc, values.len())?;
     for value in values {
         names.push(text_or_empty(&value.proto.name))?;
     }
@@ -209,7 +218,7 @@ fn value_numbers(
 ) -> Result<Vec<i32>, AllocError>
     ensures { IfOk result (λ v. v.items ≡ map value_number (map definition_row values.now)) }
 {
-    let mut numbers = Vec::new(alloc);
+    let mut numbers = Vec::with_capacity(alloc, values.len())?;
     for value in values {
         let number = value.proto.number.unwrap_or(0);
         numbers.push(number)?;
@@ -236,7 +245,7 @@ fn enum_lists(alloc: Global, declared: &FlatEnum) -> Result<EnumLists, AllocErro
 pub fn lists_of_enums(alloc: Global, enums: &[FlatEnum]) -> Result<Vec<EnumLists>, AllocError>
     ensures { IfOk result (λ v. map enum_lists_row v.items ≡ map enum_lists (map flat_views.enum_row enums.now)) }
 {
-    let mut lists = Vec::new(alloc);
+    let mut lists = Vec::with_capacity(alloc, enums.len())?;
     for declared in enums {
         lists.push(enum_lists(alloc, declared)?)?;
     }

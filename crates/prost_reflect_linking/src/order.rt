@@ -67,7 +67,7 @@ pub fn sort_by_number(numbers: &[i32], places: &mut Vec<usize>) -> Result<(), Al
 fn all_places<T>(alloc: Global, items: &[T]) -> Result<Vec<usize>, AllocError>
     ensures { IfOk result (λ v. v.items ≡ all_places items.now) }
 {
-    let mut places = Vec::new(alloc);
+    let mut places = Vec::with_capacity(alloc, items.len())?;
     for (place, _) in items.iter().enumerate() {
         places.push(place)?;
     }

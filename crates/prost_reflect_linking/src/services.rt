@@ -40,7 +40,7 @@ fn linked_methods(
     requires { IsIndex index.now (flat_rows flat.now) }
     ensures { IfOk result (λ v. map method_table_row v.items ≡ map (linked_method (links_of (flat_rows flat.now))) (map definition_row methods.now)) }
 {
-    let mut tables = Vec::new(alloc);
+    let mut tables = Vec::with_capacity(alloc, methods.len())?;
     for method in methods {
         tables.push(linked_method(alloc, index, flat, method)?)?;
     }
@@ -77,7 +77,7 @@ pub fn linked_services(
     requires { IsIndex index.now (flat_rows flat.now) }
     ensures { IfOk result (λ v. map service_table_row v.items ≡ map (linked_service (links_of (flat_rows flat.now))) (map service_row services.now)) }
 {
-    let mut tables = Vec::new(alloc);
+    let mut tables = Vec::with_capacity(alloc, services.len())?;
     for service in services {
         tables.push(linked_service(alloc, index, flat, service)?)?;
     }

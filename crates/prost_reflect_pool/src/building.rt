@@ -10,8 +10,8 @@ ghost use Rattle.prost_reflect_tables.specs.LinkedCatalog.{IsCatalogOf};
 ghost use Rattle.prost_reflect_tables.specs.Schema.{rows_of};
 
 use prost_reflect_checks::check_files;
-use prost_reflect_linking::{linked, linked_catalog};
-use prost_reflect_tables::{Catalog, PoolError, Tables, flattened};
+use prost_reflect_linking::{linked, linked_catalog, meanings, meanings_by_message, outlined};
+use prost_reflect_tables::{Catalog, Index, PoolError, Resolved, ResolvedField, Tables, flattened};
 use prost_reflect_types::FileDescriptorProto;
 use std::alloc::Global;
 
@@ -34,9 +34,24 @@ pub fn build_tables(
     ensures stands { IfErr result (λ e. e ≢ pool_errors.OutOfMemory → Stands e (file_list files.now) (flattened (file_list files.now))) }
 {
     let flat = flattened(alloc, files)?;
-    let resolved = check_files(alloc, files, &flat)?;
-    let (messages, enums) = linked(alloc, &flat, &resolved)?;
+    let Resolved {
+        index,
+        entries,
+        fields,
+        extensions,
+    } = check_files(alloc, files, &flat)?;
+    let outline = outlined(alloc, files, &flat, &index, extensions.as_slice())?;
+    drop(index);
+    let fields = meanings_by_message(alloc, fields)?;
+    let extensions = meanings(alloc, extensions)?;
+    let (messages, enums) = linked(
+        alloc,
+        flat,
+        fields,
+        extensions.as_slice(),
+        entries.as_slice(),
+    )?;
     let tables = Tables { messages, enums };
-    let catalog = linked_catalog(alloc, files, &flat, &resolved, &tables)?;
+    let catalog = linked_catalog(alloc, files, outline, &tables)?;
     Ok((tables, catalog))
 }

@@ -1,6 +1,8 @@
 -- Tables are equal where their rows are.
 use Rattle.std.specs.Prelude.{◌≡◌, ◌&&◌}
 use Rattle.prost_reflect_tables.proofs.Common.{Bool, true, false, nat_eq, List, map, Option, Some, None, refl, sym, ◌∙◌, unsigned_ties, pointwise, texts_ties, Decides-at, scalar_eq, MessageTable, FieldTable, EnumTable, written_scalar, identity_row, field_row, oneof_row, enum_value_row, rows_of}
+use Rattle.std.specs.Prelude.{Box}
+use Rattle.std.specs.declared.alloc.Global.{Global}
 use Rattle.std.specs.Bool.{Decides, beq}
 use Rattle.std.specs.Option.{option_eq, option_map}
 use Rattle.std.specs.Cmp.Derive.Mapped.{pointwise-map}
@@ -18,7 +20,7 @@ use Rattle.prost_reflect_tables.specs.contracts.tables.EnumTablePartialEq.TheImp
 use Rattle.prost_reflect_tables.specs.contracts.tables.EnumValueTablePartialEq.TheImpl as value_code
 use Rattle.prost_reflect_tables.specs.contracts.tables.IdentityPartialEq.TheImpl as identity_code
 use Rattle.prost_reflect_tables.specs.contracts.tables.WrittenDefaultPartialEq.TheImpl as default_code
-use Rattle.prost_reflect_tables.specs.Rows.{message_row, enum_row}
+use Rattle.prost_reflect_tables.specs.Rows.{boxed_scalar, message_row, enum_row}
 use Rattle.prost_reflect_tables.specs.Equality.{label_eq, kind_eq, identity_eq, field_eq, oneof_eq, message_eq, enum_value_eq, enum_eq, rows_eq, rows_decide}
 
 abbrev same_default : WrittenDefault → WrittenDefault → Bool
@@ -40,8 +42,8 @@ default_equal (defaults.I64 a) (defaults.I64 b) = refl
 default_equal (defaults.EnumNumber a) (defaults.EnumNumber b) = refl
 default_equal _ _ = refl
 
-defaults_equal : (o p : Option WrittenDefault) → option_eq same_default o p ≡ option_eq scalar_eq (option_map written_scalar o) (option_map written_scalar p)
-defaults_equal (Some a) (Some b) = default_equal a b
+defaults_equal : (o p : Option (Box WrittenDefault Global)) → option_eq (λ (a b : Box WrittenDefault Global). same_default a.value b.value) o p ≡ option_eq scalar_eq (option_map boxed_scalar o) (option_map boxed_scalar p)
+defaults_equal (Some a) (Some b) = default_equal a.value b.value
 defaults_equal (Some a) None = refl
 defaults_equal None (Some b) = refl
 defaults_equal None None = refl

@@ -1,5 +1,6 @@
 -- The rows of the tables: what they say, and not where it lies in memory.
-use Rattle.std.specs.Prelude.{ℕ, ℤ, Bool, List, map, Option, option_map, string_bytes}
+use Rattle.std.specs.Prelude.{ℕ, ℤ, Bool, List, map, Option, option_map, string_bytes, Box}
+use Rattle.std.specs.declared.alloc.Global.{Global}
 use Rattle.prost_reflect_wire.specs.Scalar as scalars
 use Rattle.prost_reflect_wire.specs.Scalar.{Scalar}
 use Rattle.prost_reflect_tables.specs.declared.tables.Cardinality.{Cardinality}
@@ -73,6 +74,10 @@ written_scalar (String s) = scalars.Text (string_bytes s)
 written_scalar (Bytes v) = scalars.Bytes v.items
 written_scalar (EnumNumber z) = scalars.EnumNumber z
 
+-- That of a field, which stands apart from its row.
+abbrev pub boxed_scalar : Box WrittenDefault Global → Scalar
+boxed_scalar b = written_scalar b.value
+
 abbrev pub identity_row : Identity → IdentityRow
 identity_row i = record { file = i.file; parent = i.parent; path = i.path.items; full_name = string_bytes i.full_name; name = string_bytes i.name }
 
@@ -87,7 +92,7 @@ field_row f = record {
   cardinality = f.cardinality;
   is_packed = f.is_packed;
   supports_presence = f.supports_presence;
-  default = option_map written_scalar f.default;
+  default = option_map boxed_scalar f.default;
   oneof = f.oneof;
 }
 

@@ -181,8 +181,8 @@ pub struct FieldTable {
     pub is_packed: bool,
     /// Whether a field that was never set is told apart from one that is set to its default (the guide on field presence).
     pub supports_presence: bool,
-    /// The default that the definition writes, if it writes one.
-    pub default: Option<WrittenDefault>,
+    /// The default that the definition writes, if it writes one. It stands apart from the row, since most fields have none.
+    pub default: Option<Box<WrittenDefault>>,
     /// The oneof that the field is a member of, as a place in its message type's list.
     pub oneof: Option<usize>,
 }

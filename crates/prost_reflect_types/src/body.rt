@@ -43,7 +43,7 @@ fn records<P: OwnedProto>(
 {
     let bodies = bodies(alloc, fields, number)?;
     let bodies = bodies.as_slice();
-    let mut records = Vec::new(alloc);
+    let mut records = Vec::with_capacity(alloc, bodies.len())?;
     for body in bodies {
         records.push(nested(alloc, body, levels)?)?;
     }
@@ -294,7 +294,7 @@ fn messages(
 {
     let bodies = bodies(alloc, fields, number)?;
     let bodies = bodies.as_slice();
-    let mut records = Vec::new(alloc);
+    let mut records = Vec::with_capacity(alloc, bodies.len())?;
     for body in bodies {
         records.push(nested_message(alloc, body, levels)?)?;
     }

@@ -39,6 +39,9 @@ pub struct RawField<'a> {
     pub value: RawValue<'a>,
 }
 
+/// The values that the record of a field has, and so most records: room for them is made at once.
+const MOST_RECORDS: usize = 8;
+
 /// The values of the record's fields in its body, in their order. Nested records are not looked into, and fields of
 /// unknown numbers are passed over.
 ///
@@ -56,7 +59,7 @@ pub fn fields_in<'a>(
     ensures fault { IfErr result (λ e. e ≢ DecodeError.OutOfMemory → StandsInMessage record_schema (type_place record_type) levels e body.now) }
 {
     let rows = record_type.rows();
-    let mut fields = Vec::new(alloc);
+    let mut fields = Vec::with_capacity(alloc, MOST_RECORDS)?;
     let mut rest = body;
     while !rest.is_empty() {
         let (number, wire_type, after) = decode_key(rest)?;

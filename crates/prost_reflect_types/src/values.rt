@@ -115,6 +115,7 @@ pub fn texts(alloc: Global, fields: &[RawField<'_>], number: u32) -> Result<Vec<
             }
         }
     }
+    texts.shrink_to_fit();
     Ok(texts)
 }
 
@@ -135,6 +136,7 @@ pub fn numbers(alloc: Global, fields: &[RawField<'_>], number: u32) -> Result<Ve
             }
         }
     }
+    numbers.shrink_to_fit();
     Ok(numbers)
 }
 

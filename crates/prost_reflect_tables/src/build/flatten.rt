@@ -133,7 +133,8 @@ fn longer_path(
     let Ok(place) = i32::try_from(place) else {
         return Err(AllocError);
     };
-    let mut longer = path.to_vec(alloc)?;
+    let mut longer = Vec::with_capacity(alloc, path.len() + 2)?;
+    longer.extend_from_slice(path)?;
     longer.push(i32::from(number))?;
     longer.push(place)?;
     Ok(longer)
@@ -181,7 +182,7 @@ fn oneofs_in<'a>(
 ) -> Result<Vec<Definition<'a, OneofDescriptorProto>>, AllocError>
     ensures { IfOk result (λ v. map definition_row v.items ≡ defined_from oneof_name (scope_row scope.now) 8 0 protos.now) }
 {
-    let mut oneofs = Vec::new(alloc);
+    let mut oneofs = Vec::with_capacity(alloc, protos.len())?;
     for (place, proto) in protos.iter().enumerate() {
         oneofs.push(defined(alloc, scope, 8, place, &proto.name, proto)?)?;
     }
@@ -195,7 +196,7 @@ fn values_in<'a>(
 ) -> Result<Vec<Definition<'a, EnumValueDescriptorProto>>, AllocError>
     ensures { IfOk result (λ v. map definition_row v.items ≡ defined_from value_name (scope_row scope.now) 2 0 protos.now) }
 {
-    let mut values = Vec::new(alloc);
+    let mut values = Vec::with_capacity(alloc, protos.len())?;
     for (place, proto) in protos.iter().enumerate() {
         values.push(defined(alloc, scope, 2, place, &proto.name, proto)?)?;
     }
@@ -209,7 +210,7 @@ fn methods_in<'a>(
 ) -> Result<Vec<Definition<'a, MethodDescriptorProto>>, AllocError>
     ensures { IfOk result (λ v. map definition_row v.items ≡ defined_from method_name (scope_row scope.now) 2 0 protos.now) }
 {
-    let mut methods = Vec::new(alloc);
+    let mut methods = Vec::with_capacity(alloc, protos.len())?;
     for (place, proto) in protos.iter().enumerate() {
         methods.push(defined(alloc, scope, 2, place, &proto.name, proto)?)?;
     }
@@ -311,7 +312,7 @@ fn flat_message<'a>(
         is_proto3: scope.is_proto3,
         parent: Some(before),
     };
-    let mut fields = Vec::new(alloc);
+    let mut fields = Vec::with_capacity(alloc, proto.field.len())?;
     add_fields(alloc, &mut fields, &within, 2, proto.field.as_slice())?;
     let oneofs = oneofs_in(alloc, &within, proto.oneof_decl.as_slice())?;
     Ok(FlatMessage {

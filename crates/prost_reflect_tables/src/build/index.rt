@@ -56,7 +56,7 @@ pub fn file_names<'f>(
 ) -> Result<Vec<&'f str>, AllocError>
     ensures { IfOk result (λ v. text_list v.items ≡ file_names (file_list files.now)) }
 {
-    let mut names = Vec::new(alloc);
+    let mut names = Vec::with_capacity(alloc, files.len())?;
     for file in files {
         names.push(text_or_empty(&file.name))?;
     }
@@ -93,7 +93,7 @@ pub fn message_names<'f, 'a>(
 ) -> Result<Vec<&'f str>, AllocError>
     ensures { IfOk result (λ v. text_list v.items ≡ map (λ m. m.definition.full_name) (map message_row messages.now)) }
 {
-    let mut names = Vec::new(alloc);
+    let mut names = Vec::with_capacity(alloc, messages.len())?;
     for message in messages {
         names.push(message.definition.full_name.as_str())?;
     }
@@ -111,7 +111,7 @@ pub fn enum_names<'f, 'a>(
 ) -> Result<Vec<&'f str>, AllocError>
     ensures { IfOk result (λ v. text_list v.items ≡ map (λ e. e.definition.full_name) (map enum_row enums.now)) }
 {
-    let mut names = Vec::new(alloc);
+    let mut names = Vec::with_capacity(alloc, enums.len())?;
     for declared in enums {
         names.push(declared.definition.full_name.as_str())?;
     }
@@ -141,7 +141,7 @@ fn numbers_by_enum(
 ) -> Result<Vec<BTreeMap<String, i32>>, AllocError>
     ensures { IfOk result (λ v. AreNumbersOf v.items (map (λ e. map linked_value e.values) (map enum_row enums.now))) }
 {
-    let mut numbers = Vec::new(alloc);
+    let mut numbers = Vec::with_capacity(alloc, enums.len())?;
     for declared in enums {
         numbers.push(numbers_by_name(alloc, declared.values.as_slice())?)?;
     }

@@ -78,7 +78,7 @@ fn resolved_list<'f, 'a>(
     requires { IsIndex index.now (flat_rows flat.now) }
     ensures { IfOk result (λ v. map resolved_row v.items ≡ map (resolve (links_of (flat_rows flat.now))) (map definition_row definitions.now)) }
 {
-    let mut fields = Vec::new(alloc);
+    let mut fields = Vec::with_capacity(alloc, definitions.len())?;
     for definition in definitions {
         fields.push(resolved_field(alloc, index, flat, definition)?)?;
     }
@@ -95,7 +95,7 @@ fn resolved_fields<'f, 'a>(
     requires { IsIndex index.now (flat_rows flat.now) }
     ensures { IfOk result (λ v. resolved_lists v.items ≡ map (λ m. map (resolve (links_of (flat_rows flat.now))) m.fields) (map message_row messages.now)) }
 {
-    let mut lists = Vec::new(alloc);
+    let mut lists = Vec::with_capacity(alloc, messages.len())?;
     for message in messages {
         lists.push(resolved_list(alloc, index, flat, message.fields.as_slice())?)?;
     }
@@ -106,7 +106,7 @@ fn resolved_fields<'f, 'a>(
 fn entry_flags(alloc: Global, messages: &[FlatMessage]) -> Result<Vec<bool>, AllocError>
     ensures { IfOk result (λ v. v.items ≡ map is_entry (map message_row messages.now)) }
 {
-    let mut flags = Vec::new(alloc);
+    let mut flags = Vec::with_capacity(alloc, messages.len())?;
     for message in messages {
         flags.push(is_entry(message))?;
     }

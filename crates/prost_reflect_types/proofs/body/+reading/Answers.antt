@@ -27,7 +27,7 @@ messages-returns-in_err-nested_message-clause-fault t c =
     rw (p.1, p.2) (λ ne. rw (← (c.in_ok-bodies.ensures), ← c.as_slice-bodies.ensures.value) (nested_refused _ _ _ _ _ _ _ (subst (NestedSoFar _ _ _ _) (next_body c.as_slice-bodies.result.now c.loop-body.body-index _ c.loop-body-test.true) c.loop-body.invariant) (c.in_err-nested_message.ensures.fault ne)))
 
 pub messages-loop-body-init : goal.messages-loop-body-init
-messages-loop-body-init t c = rw c.new-records.ensures.items (nested_none _ _ _)
+messages-loop-body-init t c = rw c.in_ok-records.ensures.items (nested_none _ _ _)
 
 pub messages-loop-body-preserved : goal.messages-loop-body-preserved
 messages-loop-body-preserved t c =

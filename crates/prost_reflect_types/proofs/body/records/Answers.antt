@@ -8,7 +8,7 @@ returns-in_err-nested-clause-fault g c =
     rw (p.1, p.2) (λ ne. rw (← (c.in_ok-bodies.ensures), ← c.as_slice-bodies.ensures.value) (nested_refused _ _ _ _ _ _ _ (subst (NestedSoFar _ _ _ _) (next_body c.as_slice-bodies.result.now c.loop-body.body-index _ c.loop-body-test.true) c.loop-body.invariant) (c.in_err-nested.ensures.fault ne)))
 
 pub loop-body-init : goal.loop-body-init
-loop-body-init g c = rw c.new-records.ensures.items (nested_none _ _ _)
+loop-body-init g c = rw c.in_ok-records.ensures.items (nested_none _ _ _)
 
 pub loop-body-preserved : goal.loop-body-preserved
 loop-body-preserved g c =

@@ -4,10 +4,10 @@ use Rattle.prost_reflect_types.proofs.FieldsFound.{fields_none, known_read, unkn
 use Rattle.prost_reflect_types.proofs.fields.fields_in.Goals as goal
 
 pub loop-rows-init : goal.loop-rows-init
-loop-rows-init c = rw c.new-fields.ensures.items (fields_none _ _ _)
+loop-rows-init c = rw c.in_ok-fields.ensures.items (fields_none _ _ _)
 
 pub returns-in_err-number-clause-fault : goal.returns-in_err-number-clause-fault
-returns-in_err-number-clause-fault c = let p = err_from_is_err_and c.from_residual.result c.from_residual.ensures.1 in
+returns-in_err-number-clause-fault c = let p = err_from_is_err_and c.from_residual-in_err-number.result c.from_residual-in_err-number.ensures.1 in
     let some : nat_eq (length c.loop-rows.rest.now) 0 ≡ false = sym c.is_empty.ensures ∙ c.loop-rows-test.true in
     rw (p.1, p.2) (λ ne. no_key _ _ _ _ _ c.loop-rows.invariant _ (λ none. true≢false (sym (ap (λ bytes. nat_eq (length bytes) 0) none) ∙ some)) c.in_err-number.ensures.fault)
 

@@ -1,0 +1,4 @@
+use Rattle.prost_reflect_linking.proofs.catalog.linked_catalog.Given as goal
+
+abbrev pub ghost-lists_of_messages : goal.ghost-lists_of_messages
+ghost-lists_of_messages g a = g.rows
