@@ -1,12 +1,11 @@
 -- The items on the two sides of a number.
 use Rattle.std.specs.Prelude.{◌≡◌, ◌∷◌, ◌++◌, ◌-◌, ◌+◌}
-use Rattle.prost_reflect_fields.proofs.Common.{true, false, Bool, cond, ℕ, suc, List, [], take, drop, length, length-drop, filter, nat_le, nat_lt, not, Some, ap, ap₂, sym, ◌∙◌, subst, refl, arith, append-nil, common_steps, exact_unsigned, nat_cmp, is_le, match_ordering, Ordering, Less, Equal, Greater, Ok, Err, AllByRecursion, IsStrictlySortedBy, keys_of, seek, index_of, one_further, last, IsAscending, items_from, items_below, Runs, flat, IsLaid}
+use Rattle.prost_reflect_fields.proofs.Common.{true, false, cond, ℕ, suc, List, [], take, drop, length, length-drop, filter, nat_le, nat_lt, not, Some, ap, ap₂, sym, ◌∙◌, subst, refl, arith, append-nil, common_steps, exact_unsigned, nat_cmp, is_le, match_ordering, Ordering, Less, Equal, Greater, Ok, Err, AllByRecursion, IsStrictlySortedBy, keys_of, seek, index_of, one_further, last, IsAscending, items_from, items_below, Runs, flat, IsLaid}
 use Rattle.std.proofs.lemmas.List.Elements.{filter-append, filter_agree}
 use Rattle.std.specs.declared.ops.Bound.TheVariants.{Excluded, Unbounded}
 use Rattle.std_collections.specs.BTreeMap.Range.{range_contains}
-use Rattle.prost_reflect_fields.proofs.ItemChanges.{itself}
 use Rattle.prost_reflect_fields.proofs.Places.{further}
-use Rattle.prost_reflect_fields.proofs.RunChanges.{AllBelow, IsRunOf, ahead_above, above, parts}
+use Rattle.prost_reflect_fields.proofs.RunChanges.{AllBelow, IsRunOf, above, parts}
 use Rattle.prost_reflect_fields.proofs.Weaving.{AllAbove}
 
 -- each order says on which side a number stands
@@ -19,7 +18,7 @@ below_less n k at = grind (arith, common_steps, at)
 from_greater : (n k : ℕ) → nat_cmp n k ≡ Greater → nat_le n k ≡ false
 from_greater n k at = grind (arith, common_steps, at)
 
-below_greater : (n k : ℕ) → nat_cmp n k ≡ Greater → nat_lt k n ≡ true
+pub below_greater : (n k : ℕ) → nat_cmp n k ≡ Greater → nat_lt k n ≡ true
 below_greater n k at = grind (arith, common_steps, at)
 
 from_equal : (n k : ℕ) → nat_cmp n k ≡ Equal → nat_le n k ≡ true

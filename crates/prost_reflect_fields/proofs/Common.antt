@@ -30,7 +30,7 @@ pub use Rattle.prost_reflect_pool.specs.SharedPools.{files_of, pool_rows}
 pub use Rattle.prost_reflect_pool.specs.declared.pooled_type.PooledType.{PooledType}
 pub use Rattle.prost_reflect_fields.specs.FieldSlots.{AddedIn, SameIn, SameStored, UnknownAdded, clear_value, first_value, has_value, left_in, numbered, put_slot, put_value, records_at, records_in, revalued, stored_at, then_slot, unknown_sets, value_in, values_alone, values_where, with_slot, with_value, with_value_in, without_value_beside, without_values}
 pub use Rattle.prost_reflect_fields.specs.Held.{held_items}
-pub use Rattle.prost_reflect_fields.specs.Items.{IsAscending, item_at, items_below, items_from, put_item, with_item, without_item}
+pub use Rattle.prost_reflect_fields.specs.Items.{IsAscending, first_above, first_from, item_at, item_copied, items_above, items_below, items_from, last_below, left_above, left_below, put_item, with_item, without_item}
 pub use Rattle.prost_reflect_fields.specs.ItemsLeft.{items_left, items_left_back}
 pub use Rattle.prost_reflect_fields.specs.Known.{all_kept, are_records_of, are_siblings, is_known, is_listed, is_other_member, keeps_unknown, known_of, oneof_of}
 pub use Rattle.prost_reflect_fields.specs.Members.{HasMembers, OnlyMember, is_member, rows_at}

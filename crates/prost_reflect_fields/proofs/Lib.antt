@@ -17,4 +17,6 @@ pub mod Replaced
 mod Weaving
 mod RunChanges
 mod Bounds
+mod Above
+mod Below
 mod WholeOneofs

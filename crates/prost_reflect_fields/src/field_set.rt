@@ -18,10 +18,9 @@ use crate::noting::noted_members;
 use crate::number_map::ascending;
 use crate::parting::parted;
 use crate::slot::FieldSlot;
+use crate::slot_map::SlotMap;
 use crate::sorted_map::{Items, ItemsBack, SortedMap};
-use crate::stored::{
-    add_unknown, oneof_of, set_value, stored_at, take_value, unknown_at, value_mut, value_mut_or,
-};
+use crate::stored::{add_unknown, oneof_of, stored_at, take_value, unknown_at, value_mut};
 use crate::taking::take_unknown;
 use prost_reflect_pool::PooledType;
 use prost_reflect_wire::{UnknownField, UnknownFieldSet};
@@ -235,14 +234,8 @@ impl<V: Drop> FieldSet<V> {
             self.note_members();
         }
         let alloc = self.fields.allocator();
-        set_value(
-            &mut self.fields,
-            alloc,
-            &self.message_type,
-            number,
-            oneof,
-            value,
-        )
+        self.fields
+            .set_value(alloc, &self.message_type, number, oneof, value)
     }
 
     /// Notes the members of oneofs that have values, where the slots are so many that they stand in runs and there are no notes yet.
@@ -316,6 +309,7 @@ impl<V: Drop> FieldSet<V> {
     {
         self.note_members();
         let alloc = self.fields.allocator();
-        value_mut_or(&mut self.fields, alloc, &self.message_type, number, default)
+        self.fields
+            .value_mut_or(alloc, &self.message_type, number, default)
     }
 }

@@ -3,10 +3,11 @@
 ghost use Rattle.std.specs.Prelude.{◌≡◌, ℕ, List, Option, None, OnOk, OnErr, IfSome, option_map};
 ghost use Rattle.std.specs.Borrow.{LendsSo, sem};
 ghost use Rattle.std.specs.Option.{option_copied, option_copied_mut};
-ghost use Rattle.prost_reflect_fields.specs.Items.{IsAscending, item_at, with_item, put_item, without_item, first_from, last_below, item_copied};
+ghost use Rattle.prost_reflect_fields.specs.Items.{IsAscending, item_at, with_item, put_item, without_item, first_from, first_above, last_below, item_copied};
 
 use std::alloc::AllocError;
 use std::collections::BTreeMap;
+use std::ops::Bound;
 
 /// A map from numbers. Beside its items it may keep notes, which say whatever its user writes there.
 pub trait NumberMap<T> {
@@ -29,6 +30,10 @@ pub trait NumberMap<T> {
     /// The first item whose number is at least the given one.
     fn first_from(&self, number: u32) -> Option<(u32, &T)>
         ensures { item_copied result ≡ first_from (entries self.now) number };
+
+    /// The first item whose number is above the given one.
+    fn first_above(&self, number: u32) -> Option<(u32, &T)>
+        ensures { item_copied result ≡ first_above (entries self.now) number };
 
     /// The last item whose number is below the given one.
     fn last_below(&self, number: u32) -> Option<(u32, &T)>
@@ -89,6 +94,14 @@ impl<T: Drop> NumberMap<T> for BTreeMap<u32, T> {
 
     fn first_from(&self, number: u32) -> Option<(u32, &T)> {
         match self.range(number..).next() {
+            Some((number, item)) => Some((*number, item)),
+            None => None,
+        }
+    }
+
+    fn first_above(&self, number: u32) -> Option<(u32, &T)> {
+        let above = (Bound::Excluded(number), Bound::Unbounded);
+        match self.range(above).next() {
             Some((number, item)) => Some((*number, item)),
             None => None,
         }

@@ -584,6 +584,19 @@ impl<T: Drop> NumberMap<T> for SortedMap<T> {
         }
     }
 
+    fn first_above(&self, number: u32) -> Option<(u32, &T)> {
+        self.ascends();
+        let (_, mut items) = self.walks_at(number);
+        match items.next() {
+            Some((first, item)) if *first != number => Some((*first, item)),
+            Some(_) => match items.next() {
+                Some((next, item)) => Some((*next, item)),
+                None => None,
+            },
+            None => None,
+        }
+    }
+
     fn last_below(&self, number: u32) -> Option<(u32, &T)> {
         let (mut items, _) = self.walks_at(number);
         match items.next() {

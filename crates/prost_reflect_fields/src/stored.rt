@@ -11,7 +11,7 @@ ghost use Rattle.prost_reflect_fields.specs.FieldSlots.{stored_at, unknown_at, p
 ghost use Rattle.prost_reflect_fields.specs.Sound.{set_value_at, prepared, KeepsOneofs};
 ghost use Rattle.prost_reflect_fields.specs.Members.{is_member, rows_at};
 ghost use Rattle.prost_reflect_fields.specs.Noted.{AreNoted, without_noted};
-ghost use Rattle.prost_reflect_fields.specs.Lending.{LendsOrStays};
+ghost use Rattle.prost_reflect_fields.specs.Lending.{LendsValue};
 
 use crate::members::member_places;
 use crate::number_map::{NumberMap, ascending};
@@ -120,7 +120,7 @@ pub fn add_unknown<V: Drop, S: NumberMap<FieldSlot<V>>>(
 
 /// Sets the value at the number, and removes those of the other members of its field's oneof. So of a oneof at most one member has
 /// a value, if it was so before. The unknown fields stay. If out of memory, no value and no unknown field changes.
-pub fn set_value<V: Drop, S: NumberMap<FieldSlot<V>>>(
+pub(crate) fn set_value<V: Drop, S: NumberMap<FieldSlot<V>>>(
     fields: &mut S,
     alloc: Global,
     message_type: &PooledType,
@@ -213,7 +213,7 @@ pub fn value_mut<V, S: NumberMap<FieldSlot<V>>>(fields: &mut S, number: u32) -> 
 
 /// The value at the number, for writing. Where there is none it is first set to `default`, which removes those of the other
 /// members of its field's oneof, as `set_value` does. If out of memory, nothing changes.
-pub fn value_mut_or<'a, V: Drop + 'a, S: NumberMap<FieldSlot<V>>>(
+pub(crate) fn value_mut_or<'a, V: Drop + 'a, S: NumberMap<FieldSlot<V>>>(
     fields: &'a mut S,
     alloc: Global,
     message_type: &PooledType,
@@ -221,7 +221,7 @@ pub fn value_mut_or<'a, V: Drop + 'a, S: NumberMap<FieldSlot<V>>>(
     default: V,
 ) -> Result<&'a mut V, AllocError>
     requires { AreNoted (known_of message_type.now) (S.noted fields.old) (S.entries fields.old) }
-    ensures* writes_back { sem 𝓛 (LendsOrStays S.row V.row fields.entry result (λ after w. (S.entries after ≡ with_value (prepared (known_of message_type.now) (S.entries fields.old) number default) number w) × AreNoted (known_of message_type.now) (S.noted after) (S.entries after) × KeepsOneofs (known_of message_type.now) (S.entries fields.old) (S.entries after)) (λ after. (S.entries after ≡ prepared (known_of message_type.now) (S.entries fields.old) number default) × AreNoted (known_of message_type.now) (S.noted after) (S.entries after) × KeepsOneofs (known_of message_type.now) (S.entries fields.old) (S.entries after)) (λ after. (S.entries after ≡ S.entries fields.old) × AreNoted (known_of message_type.now) (S.noted after) (S.entries after) × KeepsOneofs (known_of message_type.now) (S.entries fields.old) (S.entries after))) }
+    ensures* writes_back { sem 𝓛 (LendsValue S.row V.row fields.entry result S.entries S.noted (known_of message_type.now) (S.entries fields.old) number default) }
     ensures value { IfOk result (λ v. stored_at (prepared (known_of message_type.now) (S.entries fields.old) number default) number ≡ Some v.now) }
     ensures ascending { IsAscending (S.entries fields.old) }
 {

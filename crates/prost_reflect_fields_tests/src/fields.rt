@@ -1,12 +1,17 @@
 //! Calls on both forms of a map from numbers, over a message type with oneofs.
 
+ghost use Rattle.std.specs.Prelude.{◌≡◌, IfOk, map as each, reverse};
+ghost use Rattle.std.specs.Map.{keys_of};
+
 use crate::choices::choices;
 use prost_reflect_fields::number_map::NumberMap;
 use prost_reflect_fields::slot::FieldSlot;
+use prost_reflect_fields::slot_map::SlotMap;
 use prost_reflect_fields::sorted_map::SortedMap;
 use prost_reflect_fields::stored::{
-    add_unknown, oneof_of, set_value, stored_at, take_value, unknown_at, value_mut, value_mut_or,
+    add_unknown, oneof_of, stored_at, take_value, unknown_at, value_mut,
 };
+use prost_reflect_fields::walks::{walk_down, walk_up};
 use prost_reflect_pool::PooledType;
 use prost_reflect_samples::calls::{Call, calls};
 use prost_reflect_wire::{DecodeError, UnknownField};
@@ -30,7 +35,7 @@ fn number_at(step: usize, call: Call) -> u32 {
 
 /// Makes a call at a number, beside no notes. At one below 13 that no field has, a set and a write add an unknown field in place
 /// of a value.
-fn apply<S: NumberMap<FieldSlot<u32>>>(
+fn apply<S: SlotMap<u32>>(
     fields: &mut S,
     alloc: Global,
     descriptor: &PooledType,
@@ -42,12 +47,12 @@ fn apply<S: NumberMap<FieldSlot<u32>>>(
         Call::Set(_, value) if has_values => {
             drop(fields.take_notes());
             let oneof = oneof_of(descriptor, number);
-            set_value(fields, alloc, descriptor, number, oneof, value)?;
+            fields.set_value(alloc, descriptor, number, oneof, value)?;
             Ok(None)
         }
         Call::Write(_, amount) if has_values => {
             drop(fields.take_notes());
-            let value = value_mut_or(fields, alloc, descriptor, number, 1000)?;
+            let value = fields.value_mut_or(alloc, descriptor, number, 1000)?;
             *value = value.wrapping_add(amount);
             Ok(Some(*value))
         }
@@ -78,7 +83,9 @@ fn add_record<S: NumberMap<FieldSlot<u32>>>(
     }
 }
 
-fn seen(number: u32, entry: &FieldSlot<u32>) -> Seen {
+fn seen(number: u32, entry: &FieldSlot<u32>) -> Seen
+    ensures { result.0 ≡ number }
+{
     let unknown = match entry.unknown() {
         Some(unknown) => unknown.len(),
         None => 0,
@@ -86,32 +93,29 @@ fn seen(number: u32, entry: &FieldSlot<u32>) -> Seen {
     (number, entry.value().copied(), unknown)
 }
 
-/// What stands at the numbers, from the lowest up.
-fn walk<S: NumberMap<FieldSlot<u32>>>(fields: &S, alloc: Global) -> Result<Vec<Seen>, AllocError> {
+/// What stands at all numbers, from the lowest up.
+fn seen_up<S: NumberMap<FieldSlot<u32>>>(fields: &S, alloc: Global) -> Result<Vec<Seen>, AllocError>
+    ensures { IfOk result (λ walked. each (λ s. s.0) walked.items ≡ keys_of (S.entries fields.now)) }
+{
     let mut walked = Vec::new(alloc);
-    let mut from: u32 = 0;
-    for _ in 0..256 {
-        match fields.first_from(from) {
-            Some((number, entry)) => {
-                walked.push(seen(number, entry))?;
-                from = number.wrapping_add(1);
-            }
-            None => break,
-        }
+    for (number, entry) in walk_up(fields) {
+        walked.push(seen(number, entry))?;
     }
     Ok(walked)
 }
 
-/// Whether the walk from the highest number down gives the same, the last one first.
-fn walks_back<S: NumberMap<FieldSlot<u32>>>(fields: &S, walked: &[Seen]) -> bool {
-    let mut below = u32::MAX;
-    for expected in walked.iter().rev() {
-        match fields.last_below(below) {
-            Some((number, entry)) if seen(number, entry) == *expected => below = number,
-            _ => return false,
-        }
+/// What stands at all numbers, from the highest down.
+fn seen_down<S: NumberMap<FieldSlot<u32>>>(
+    fields: &S,
+    alloc: Global,
+) -> Result<Vec<Seen>, AllocError>
+    ensures { IfOk result (λ walked. each (λ s. s.0) walked.items ≡ reverse (keys_of (S.entries fields.now))) }
+{
+    let mut walked = Vec::new(alloc);
+    for (number, entry) in walk_down(fields) {
+        walked.push(seen(number, entry))?;
     }
-    fields.last_below(below).is_none()
+    Ok(walked)
 }
 
 /// What a table by number says that stands there.
@@ -190,7 +194,7 @@ impl Expected {
 
 /// Makes a call on the map and on the table. Says whether both answer the same, and whether both walks over the map then give
 /// what the table says.
-fn agrees_after<S: NumberMap<FieldSlot<u32>>>(
+fn agrees_after<S: SlotMap<u32>>(
     fields: &mut S,
     alloc: Global,
     descriptor: &PooledType,
@@ -201,8 +205,10 @@ fn agrees_after<S: NumberMap<FieldSlot<u32>>>(
     if apply(fields, alloc, descriptor, number, call)? != expected.apply(number, call) {
         return Ok(false);
     }
-    let walked = walk(fields, alloc)?;
-    Ok(walked == expected.walk(alloc)? && walks_back(fields, &walked))
+    let mut wanted = expected.walk(alloc)?;
+    let goes_up = seen_up(fields, alloc)? == wanted;
+    wanted.reverse();
+    Ok(goes_up && seen_down(fields, alloc)? == wanted)
 }
 
 /// Whether the calls that find what a number has find what the table says.
@@ -225,10 +231,7 @@ fn agrees_at<S: NumberMap<FieldSlot<u32>>>(
 }
 
 /// How many calls agree with the table, up to the first that does not, and at how many numbers something stands then.
-fn agreeing_calls<S: NumberMap<FieldSlot<u32>>>(
-    fields: &mut S,
-    alloc: Global,
-) -> Result<(usize, usize), Fail> {
+fn agreeing_calls<S: SlotMap<u32>>(fields: &mut S, alloc: Global) -> Result<(usize, usize), Fail> {
     let descriptor = choices(alloc)?;
     let mut expected = Expected {
         values: [None; 256],

@@ -1,5 +1,5 @@
-use Rattle.std.specs.Prelude.{◌≡◌, ◌≤◌}
-use Rattle.prost_reflect_fields.proofs.Common.{ℕ, Ok, Err, Result, arith, ap, sym, ◌∙◌, inl, inr, ⊎_elim, take, drop, nat_cmp, seek, index_of}
+use Rattle.std.specs.Prelude.{◌≡◌}
+use Rattle.prost_reflect_fields.proofs.Common.{arith, ap, sym, ◌∙◌, ⊎_elim, take, drop, nat_cmp, seek, index_of}
 use Rattle.prost_reflect_fields.proofs.Places.{seek_within, gap_within}
 use Rattle.prost_reflect_fields.proofs.Bounds.{below_place, from_place}
 use Rattle.prost_reflect_fields.proofs.items.parted_at.Goals as goal
