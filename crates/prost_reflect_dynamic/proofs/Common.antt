@@ -98,14 +98,14 @@ pub use Rattle.prost_reflect_fields.specs.formers.field_set.FieldSet.{slot_forme
 pub use Rattle.prost_reflect_fields.proofs.ItemChanges.{Apart, apart_back, apart_of, at_each, by_number, itself, none_above, put_apart, put_same, with_apart, with_same}
 pub use Rattle.prost_reflect_fields.proofs.Siblings.{siblings_back, siblings_self}
 pub use Rattle.prost_reflect_fields.proofs.SlotChanges.{ascending_put, ascending_with_value, ascending_without_values, item_without, records_without, value_without, value_written, value_written_apart}
-pub use Rattle.prost_reflect_dynamic.specs.Access.{HadContent, HasOneMember, IsLentIf, IsLentOf, IsOwnField, IsStoredOr, NameFound, NameMissing, NumberFound, NumberMissing, TakesFound, had_at, has_at, is_field_number, left_at, left_if, number_declared, number_named, number_of, saying, takes, takes_at}
+pub use Rattle.prost_reflect_dynamic.specs.Access.{HadContent, HasOneField, HasOneMember, IsDefaultAt, IsLentIf, IsLentOf, IsOwnField, IsStoredOr, NameFound, NameMissing, NumberFound, NumberMissing, TakesFound, had_at, has_at, is_field_number, left_at, left_if, number_declared, number_named, number_of, saying, says_nothing, takes, takes_at}
 pub use Rattle.prost_reflect_dynamic.specs.ContentLaws.{MapInsert, MessageOrder, MessageSlots, SlotsAfterClear, SlotsAfterSet, SlotsAfterUnknown, SlotsDetermine, ValueViews, compare_keys, pairs_shown}
 pub use Rattle.prost_reflect_dynamic.specs.Contents.{cleared_if, entries_without, in_entries, set_if, unknown_added, value_cleared, value_set, values_taken, with_unknown}
 pub use Rattle.prost_reflect_dynamic.specs.Copies.{SameSlot, SameStored, SameStoring, pairs_seen}
 pub use Rattle.prost_reflect_dynamic.specs.DeepTypes.{all_typed, entries_typed, items_typed, kind_place, pairs_typed, place_for, stands_there, stored_kind, value_typed}
 pub use Rattle.prost_reflect_dynamic.specs.Defaults.{IsDefaultBy, IsDefaultByRow, IsEmptyOf, IsRowDefault, default_by_row, place_named, row_default, single_place}
 pub use Rattle.prost_reflect_dynamic.specs.Depths.{GivesInside, LendsInside}
-pub use Rattle.prost_reflect_dynamic.specs.Edits.{IsWhole, LeavesSet, Removes, Sets, held_set}
+pub use Rattle.prost_reflect_dynamic.specs.Edits.{IsPart, IsWhole, LeavesMessage, LeavesSet, Removes, Sets, held_set}
 pub use Rattle.prost_reflect_dynamic.specs.Encodables.{arranged, entries_pass, fits_at, items_pass, slot_passes, slots_pass, value_arranged}
 pub use Rattle.prost_reflect_dynamic.specs.Encoding.{AreWritable, IsWritable, OwnUnknown, ValueWritable, entries_bytes, nested_bytes, unknown_bytes}
 pub use Rattle.prost_reflect_dynamic.specs.ExtensionAccess.{IsOwnExtension, extension_number, extension_takes}
@@ -137,7 +137,7 @@ pub use Rattle.prost_reflect_dynamic.specs.UnknownLists.{UnknownListed, all_unkn
 pub use Rattle.prost_reflect_dynamic.specs.ValueLists.{IsExtensionPair, IsFieldPair, extensions_left, extensions_steps, fields_left, fields_steps, had_in, had_numbers, had_pairs, had_values, said, values_left}
 pub use Rattle.prost_reflect_dynamic.specs.Variants.{key_among, key_in, list_in, message_in}
 pub use Rattle.prost_reflect_dynamic.specs.View.{content_of, entries_from, key_of, message_step, message_type_of, overwritten_at, pairs_from, payloads_of, slot_of, stored_in, value_of, value_step, written_at}
-pub use Rattle.prost_reflect_dynamic.specs.Walks.{EachGiven, GivesEach, descriptor_steps}
+pub use Rattle.prost_reflect_dynamic.specs.Walks.{EachGiven, EachTaken, GivesEach, descriptor_steps}
 pub use Rattle.prost_reflect_dynamic.specs.declared.descriptor.extension.ExtensionDescriptor.{ExtensionDescriptor}
 pub use Rattle.prost_reflect_dynamic.specs.declared.descriptor.field.FieldDescriptor.{FieldDescriptor}
 pub use Rattle.prost_reflect_dynamic.specs.declared.descriptor.message.MessageDescriptor.{MessageDescriptor}

@@ -1,6 +1,6 @@
 -- What a message lends nests less deep than the message.
 use Rattle.std.specs.Prelude.{◌≡◌, ◌<◌, ◌≤◌, ◌+◌, ◌∷◌, ◌++◌}
-use Rattle.prost_reflect_dynamic.proofs.Common.{rules, ℕ, max, Bool, true, false, cond, List, [], length, get_or, Option, Some, None, Bor, true≢false, sym, subst, ap, refl, ◌∙◌, arith, Result, IfOk, IfSome, flat_map, option_and_then, option_map, option_to_list, is_some, unwrap_or, AllByRecursion, All, lookup, is_at, nat_cmp, match_ordering, Ordering, Less, Equal, Greater, Field, AllocError, Global, Ok, Err, recursion_from_All, get_or-map, length-map, value_in, stored_at, has_value, numbered, left_in, then_slot, without_values, value_alone, values_alone, with_value_in, revalued, put_slot, put_value, with_slot, slot_weighed, IsAscending, item_at, put_item, with_item, known_of, are_siblings, prepared, set_value_at, FieldSlot, PooledType, IsOwnField, has_at, had_at, saying, left_at, GivesInside, IsOwnExtension, GivesNext, had_numbers, had_pairs, fields_left, extensions_left, fields_steps, extensions_steps, IsFieldPair, IsExtensionPair, content_of, message_type_of, stored_in, EachGiven, DynamicMessage, size-DynamicMessage, size_is-DynamicMessage, MapKey, Value, size-Value, the_lemmas}
+use Rattle.prost_reflect_dynamic.proofs.Common.{rules, ℕ, max, Bool, true, false, cond, List, [], length, get_or, Option, Some, None, Bor, true≢false, sym, subst, ap, refl, ◌∙◌, arith, Result, IfOk, IfSome, flat_map, option_and_then, option_map, option_to_list, is_some, unwrap_or, AllByRecursion, All, lookup, is_at, nat_cmp, match_ordering, Ordering, Less, Equal, Greater, Field, AllocError, Global, Ok, Err, recursion_from_All, get_or-map, length-map, value_in, stored_at, has_value, numbered, left_in, then_slot, without_values, value_alone, values_alone, with_value_in, revalued, put_slot, put_value, with_slot, slot_weighed, IsAscending, item_at, put_item, with_item, known_of, are_siblings, prepared, set_value_at, FieldSlot, PooledType, IsOwnField, has_at, had_at, saying, left_at, GivesInside, IsOwnExtension, extension_number, number_of, GivesNext, had_numbers, had_pairs, fields_left, extensions_left, fields_steps, extensions_steps, IsFieldPair, IsExtensionPair, content_of, message_type_of, stored_in, EachGiven, DynamicMessage, size-DynamicMessage, size_is-DynamicMessage, MapKey, Value, size-Value, the_lemmas}
 use denote.Param.Weighed.{w_const, w_pair, w_this, most}
 use Rattle.std.specs.Map.{values_of}
 use Rattle.std.specs.declared.collections.BTreeMap.{BTreeMap}
@@ -66,29 +66,38 @@ module _ (m : DynamicMessage) where
   numbered_small n None h = tt
   numbered_small n (Some v) h = (h, tt)
 
-  pairs_small : (of_extensions : Bool) → AllByRecursion (λ (p : ℕ × Value). Small p.1) (had_pairs of_extensions m)
+  pub pairs_small : (of_extensions : Bool) → AllByRecursion (λ (p : ℕ × Value). Small p.1) (had_pairs of_extensions m)
   pairs_small b = flat (λ (p : ℕ × Value). Small p.1) (λ n. numbered n (had_at n m)) (λ n. numbered_small n (had_at n m) (had_small n (has_at n (content_of m)))) (had_numbers b m)
 
-  -- WHAT A WALK GIVES
+-- WHAT A WALK GIVES
 
-  next_small : {D : Type 0} (stands : ℕ × Value → D × Bor Value → Type 0) → ((p : ℕ × Value) (given : D × Bor Value) → stands p given → given.1.now ≡ p.1)
-      → (old new : List (ℕ × Value)) (x : Result (D × Bor Value) AllocError) → AllByRecursion (λ (p : ℕ × Value). Small p.1) old → GivesNext stands old (Some x) new
-      → IfOk x (λ pair. Small pair.1.now) × AllByRecursion (λ (p : ℕ × Value). Small p.1) new
-  next_small stands same [] new x h g = absurd g
-  next_small stands same (p ∷ old) new (Ok given) h g = (subst Small (sym (same p given g.1)) h.0, subst (AllByRecursion (λ (p : ℕ × Value). Small p.1)) (sym g.0) h.1)
-  next_small stands same (p ∷ old) new (Err e) h g = (tt, subst (AllByRecursion (λ (p : ℕ × Value). Small p.1)) (sym g.0) h.1)
+module _ (Such : ℕ → Value → Type 0) where
+  abbrev AllHold : List (ℕ × Value) → Type 0
+  AllHold left = AllByRecursion (λ (p : ℕ × Value). Such p.0 p.1) left
+
+  next_holds : {D : Type 0} (number : D → ℕ) (stands : ℕ × Value → D × Bor Value → Type 0) → ((p : ℕ × Value) (given : D × Bor Value) → stands p given → (number given.0 ≡ p.0) × (given.1.now ≡ p.1))
+      → (old new : List (ℕ × Value)) (x : Result (D × Bor Value) AllocError) → AllHold old → GivesNext stands old (Some x) new → IfOk x (λ pair. Such (number pair.0) pair.1.now) × AllHold new
+  next_holds number stands same [] new x h g = absurd g
+  next_holds number stands same (p ∷ old) new (Ok given) h g =
+      let (at, is) = same p given g.1 in
+      (subst (λ k. Such k given.1.now) (sym at) (subst (Such p.0) (sym is) h.0), subst AllHold (sym g.0) h.1)
+  next_holds number stands same (p ∷ old) new (Err e) h g = (tt, subst AllHold (sym g.0) h.1)
+
+  -- of the values of a list, each that a walk over it gives
+  pub fields_hold : (it : Fields) (ps : List (ℕ × Value)) → fields_left it ≡ ps → AllHold ps → EachGiven fields_steps (λ pair. Such (number_of pair.0) pair.1.now) it
+  fields_hold it ps is all = gives fields_steps (λ s. AllHold (fields_left s)) (λ pair. Such (number_of pair.0) pair.1.now)
+      (λ s t x h g. next_holds number_of (IsFieldPair s.values.message_type.now) (λ p given st. (st.1, st.2)) (fields_left s) (fields_left t) x h g.0) it (subst AllHold (sym is) all)
+
+  pub extensions_hold : (it : Extensions) (ps : List (ℕ × Value)) → extensions_left it ≡ ps → AllHold ps → EachGiven extensions_steps (λ pair. Such (extension_number pair.0) pair.1.now) it
+  extensions_hold it ps is all = gives extensions_steps (λ s. AllHold (extensions_left s)) (λ pair. Such (extension_number pair.0) pair.1.now)
+      (λ s t x h g. next_holds extension_number (IsExtensionPair s.values.message_type.now) (λ p given st. (st.1, st.2)) (extensions_left s) (extensions_left t) x h g.0) it (subst AllHold (sym is) all)
 
 module _ (m : DynamicMessage) where
-  abbrev SmallLeft : List (ℕ × Value) → Type 0
-  SmallLeft left = AllByRecursion (λ (p : ℕ × Value). size-Value p.1 < size-DynamicMessage m) left
-
   pub fields_inside : (it : Fields) → fields_left it ≡ had_pairs false m → GivesInside fields_steps m it
-  fields_inside it is = gives fields_steps (λ s. SmallLeft (fields_left s)) (λ pair. size-Value pair.1.now < size-DynamicMessage m)
-      (λ s t x h g. next_small m (IsFieldPair s.values.message_type.now) (λ p given st. st.2) (fields_left s) (fields_left t) x h g.0) it (subst SmallLeft (sym is) (pairs_small m false))
+  fields_inside it is = fields_hold (λ n v. size-Value v < size-DynamicMessage m) it (had_pairs false m) is (pairs_small m false)
 
   pub extensions_inside : (it : Extensions) → extensions_left it ≡ had_pairs true m → GivesInside extensions_steps m it
-  extensions_inside it is = gives extensions_steps (λ s. SmallLeft (extensions_left s)) (λ pair. size-Value pair.1.now < size-DynamicMessage m)
-      (λ s t x h g. next_small m (IsExtensionPair s.values.message_type.now) (λ p given st. st.2) (extensions_left s) (extensions_left t) x h g.0) it (subst SmallLeft (sym is) (pairs_small m true))
+  extensions_inside it is = extensions_hold (λ n v. size-Value v < size-DynamicMessage m) it (had_pairs true m) is (pairs_small m true)
 
   next_own : {D : Type 0} (Own : D → Type 0) (stands : ℕ × Value → D × Bor Value → Type 0) → ((p : ℕ × Value) (given : D × Bor Value) → stands p given → Own given.0)
       → (old new : List (ℕ × Value)) (x : Result (D × Bor Value) AllocError) → GivesNext stands old (Some x) new → IfOk x (λ pair. Own pair.0)

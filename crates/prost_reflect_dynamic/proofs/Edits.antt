@@ -1,11 +1,12 @@
 -- What clearing a number and setting a value keep of a content.
 use Rattle.std.specs.Prelude.{◌≡◌, ◌≤◌}
-use Rattle.prost_reflect_dynamic.proofs.Common.{ℕ, Bool, true, false, cond, nat_eq, List, Option, Some, None, refl, ap, sym, subst, ◌∙◌, true≢false, arith, is_some, and_parts, and_from, eq-eqb, Field, known, field_of, passes, Content, ContentOf, Entries, Slot, value_at, slot_at, insert_number, numbers_in, changed, schema_of, type_of, entries_of, kept, kept_entries, kind_for, fit_test, value_passes, value_valid, encodable, ValueStored, ValueTyped, WellStored, with_value, cleared, set_field, with_field_value, Holds, with_stored, field_number, table_passes, OptionPasses, SlotPasses, passes_slots, stored_passes, value_set, value_cleared, cleared_if, values_taken, in_entries, Arranged, without_unknown, has_at, takes_at, all_typed, IsWhole, held_set, Removes, Sets, StaysTyped, typed_at, message_stored, value_stored, value_of, content_of, message_type_of, stored_in, entries_from, DynamicMessage, size-DynamicMessage, IsAscending, known_of, schema_at, type_at, PooledType}
+use Rattle.prost_reflect_dynamic.proofs.Common.{ℕ, Bool, true, false, not, cond, nat_eq, List, Option, Some, None, refl, ap, sym, subst, ◌∙◌, true≢false, arith, is_some, and_parts, and_from, eq-eqb, Field, known, field_of, passes, Content, ContentOf, Entries, Slot, value_at, slot_at, insert_number, numbers_in, changed, schema_of, type_of, entries_of, kept, kept_entries, kind_for, fit_test, value_passes, value_valid, encodable, ValueStored, ValueTyped, WellStored, with_value, cleared, set_field, with_field_value, Holds, with_stored, field_number, table_passes, OptionPasses, SlotPasses, passes_slots, stored_passes, value_set, value_cleared, cleared_if, values_taken, in_entries, Arranged, without_unknown, has_at, saying, says_nothing, stored_at, takes_at, all_typed, IsWhole, held_set, Removes, Sets, StaysTyped, typed_at, message_stored, value_stored, value_of, content_of, message_type_of, stored_in, entries_from, DynamicMessage, size-DynamicMessage, IsAscending, known_of, schema_at, type_at, PooledType}
 use Rattle.prost_reflect_wire.specs.Content.{Value}
 use Rattle.prost_reflect_wire.specs.Typing.{entries_pass}
 use Rattle.prost_reflect_dynamic.specs.declared.value.Value as values
 use Rattle.prost_reflect_dynamic.proofs.ContentChanges.{slots_after_clear, message_arranged}
 use Rattle.prost_reflect_dynamic.proofs.Described.{schema_at_valid}
+use Rattle.prost_reflect_dynamic.proofs.Had.{has_found}
 use Rattle.prost_reflect_dynamic.proofs.KeptSlots.{kept_after_set, kept_after_clear, kept_after_clear_all}
 use Rattle.prost_reflect_dynamic.proofs.Merging.{differ_in, known_in}
 use Rattle.prost_reflect_dynamic.proofs.Removals.{cleared_sound, fits, fits_by_itself, clear_fits, clear_holds, taken_fits, taken_holds, kept_taken, unknown_taken_fits, unknown_taken_holds, kept_unknown_taken}
@@ -139,14 +140,24 @@ takes_unknown m new s type is typed depth = record {
 
 -- WHAT IS SET
 
+-- a number at which a value is stored is had unless the value says nothing
+has_stored : (m new : DynamicMessage) (n : ℕ) (v : values.Value) → message_type_of new ≡ message_type_of m → IsAscending (stored_in new) → stored_at (stored_in new) n ≡ Some v → has_at n (content_of new) ≡ not (says_nothing (known_of (message_type_of m)) n v)
+has_stored m new n v type s there = has_found new n (Some v) s (sym there) ∙ ap (λ t. is_some (saying (known_of t) n v)) type ∙ said (says_nothing (known_of (message_type_of m)) n v)
+  where
+    said : (b : Bool) → is_some (cond b None (Some v)) ≡ not b
+    said true = refl
+    said false = refl
+
 -- the word of setting
 pub sets : (m new : DynamicMessage) (n : ℕ) (v : values.Value) → IsAscending (stored_in m) → message_type_of new ≡ message_type_of m → content_of new ≡ value_set n (value_of v) (content_of m)
-    → (typed_at (message_type_of m) n (value_stored v) ≡ true → StaysTyped m new) → takes_at (message_type_of m) n v ≡ true → Sets (Some n) v m new
-sets m new n v s type is stays valid = record {
+    → (typed_at (message_type_of m) n (value_stored v) ≡ true → StaysTyped m new) → IsAscending (stored_in new) → stored_at (stored_in new) n ≡ Some v → takes_at (message_type_of m) n v ≡ true → Sets (Some n) v m new
+sets m new n v s type is stays ascends there valid = record {
   message_type = type;
   content = is;
   held = ap kept is ∙ set_held (content_of m) n (value_of v) (message_arranged m s);
   sound = λ whole w. message_set_sound m new n v is valid whole w;
   encodable = λ inside h. message_set_fits m new n v is valid inside h;
   typed = λ t. let step : StaysTyped m new = stays t in step.typed;
+  stored = there;
+  has = has_stored m new n v type ascends there;
 }

@@ -61,6 +61,9 @@ pub mod Paths
 mod SetPaths
 pub mod Removals
 mod Edits
+mod Parts
+mod DefaultParts
+mod LentMessages
 mod LentPaths
 pub mod KindDefaults
 pub mod ReadBack

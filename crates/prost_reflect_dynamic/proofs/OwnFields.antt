@@ -1,12 +1,14 @@
 -- Fields of a message's own type, and what their numbers are to it.
-use Rattle.std.specs.Prelude.{◌≡◌}
-use Rattle.prost_reflect_dynamic.proofs.Common.{ℕ, Bool, true, false, cond, List, Option, Some, None, refl, ap, sym, ◌∙◌, unwrap_or, true≢false, option_map, option_and_then, is_some, slice_get, IfOk, IfSome, Result, AllocError, Ok, Err, bytes_eq, field_of, passes, value_valid, FieldRow, fields_at, row_of, place_of, schema_field, named_field, pool_rows, fields_of, PooledType, rows_same, known_of, is_known, row_at_number, row_at_place, row_of_number, no_row, fields_ascend, IsOwnField, is_field_number, number_named, number_of, takes, takes_at, NumberFound, NumberMissing, NameFound, NameMissing, TakesFound, NamesEqual, NamesSame, MessageDescriptor, row_at, is_declared, is_declared_at, declared_place, FieldDescriptor, value_of, Value}
+use Rattle.std.specs.Prelude.{◌≡◌, ◌≢◌}
+use Rattle.prost_reflect_dynamic.proofs.Common.{ℕ, Bool, true, false, not, cond, and_from, eq-eqb, ne_eqb, Field, field_number, is_sibling, are_siblings, List, Option, Some, None, refl, ap, sym, ◌∙◌, unwrap_or, true≢false, option_map, option_and_then, is_some, slice_get, IfOk, IfSome, Result, AllocError, Ok, Err, bytes_eq, field_of, passes, value_valid, FieldRow, fields_at, row_of, place_of, schema_field, named_field, pool_rows, fields_of, PooledType, rows_same, known_of, is_known, row_at_number, row_at_place, row_of_number, no_row, fields_ascend, IsOwnField, is_field_number, number_named, number_of, takes, takes_at, NumberFound, NumberMissing, NameFound, NameMissing, TakesFound, NamesEqual, NamesSame, MessageDescriptor, row_at, is_declared, is_declared_at, declared_place, FieldDescriptor, value_of, Value}
+use Rattle.prost_reflect_wire.specs.Schema.{same_oneof}
 use Rattle.prost_reflect_tables.specs.Schema.{rows_of}
 use Rattle.prost_reflect_dynamic.specs.Named.{SameMessage}
 use Rattle.prost_reflect_dynamic.specs.NamedFields as named
 use Rattle.prost_reflect_dynamic.specs.Setting.{DescribesField}
 use Rattle.prost_reflect_dynamic.proofs.Described.{known_of_row, field_at_number}
 use Rattle.prost_reflect_dynamic.proofs.OwnRows.{fields_found}
+use Rattle.prost_reflect_fields.proofs.Siblings.{passes_found}
 
 -- the row of an own field is one of the message type's
 own_row : (t : PooledType) (field : FieldDescriptor) → IsOwnField t field → row_at field ≡ slice_get (fields_of t) field.index
@@ -179,3 +181,29 @@ found_name d name (Some field) e s =
 pub names_found : (d : MessageDescriptor) (name : List ℕ) (r : Result (Option FieldDescriptor) AllocError) → IfOk r (λ found. option_map (λ field. field.index) found ≡ named_field (named.descriptor_fields d) name)
     → IfOk r (λ found. IfSome found (λ field. SameMessage d field.message)) → IfOk r (λ found. IfSome found (λ field. (t : PooledType) → IsOwnField t field → number_named t name ≡ Some (number_of field)))
 names_found d name = and_ok _ _ _ (found_name d name)
+
+-- MEMBERS OF ONE ONEOF
+
+-- fields of other numbers whose oneof is one are siblings
+members_siblings : (fields : List Field) (n k : ℕ) (f g : Field) → field_of fields n ≡ Some f → field_of fields k ≡ Some g → k ≢ n → same_oneof g.oneof f.oneof ≡ true → are_siblings fields n k ≡ true
+members_siblings fields n k f g at there apart same =
+    ap (λ (o : Option Field). passes o (λ f. is_sibling fields f k)) at
+    ∙ and_from _ _ (ap not (ne_eqb k f.number (λ e. apart (e ∙ field_number fields n f at)))) (passes_found k (λ h. same_oneof h.oneof f.oneof) fields g there same)
+
+pub own_siblings : (t : PooledType) (a b : FieldDescriptor) (j k n o : ℕ) → IsOwnField t a → IsOwnField t b → option_map (λ f. f.oneof) (row_at a) ≡ Some (Some j) → option_map (λ f. f.oneof) (row_at b) ≡ Some (Some k) → k ≡ j
+    → option_map (λ f. f.number) (row_at a) ≡ Some n → option_map (λ f. f.number) (row_at b) ≡ Some o → o ≢ n → are_siblings (known_of t) (number_of a) (number_of b) ≡ true
+own_siblings t a b j k n o own other in_one in_other same numbered numbered_other apart = go (row_at a) (row_at b) refl refl in_one in_other numbered numbered_other
+  where
+    go : (x y : Option FieldRow) → row_at a ≡ x → row_at b ≡ y → option_map (λ f. f.oneof) x ≡ Some (Some j) → option_map (λ f. f.oneof) y ≡ Some (Some k) → option_map (λ f. f.number) x ≡ Some n → option_map (λ f. f.number) y ≡ Some o
+        → are_siblings (known_of t) (number_of a) (number_of b) ≡ true
+    go None y at there i h e g = cc
+    go (Some x) None at there i h e g = cc
+    go (Some x) (Some y) at there i h e g =
+        let n_is : number_of a ≡ n = ap (λ (r : Option ℕ). unwrap_or r 0) (ap (option_map (λ f. f.number)) at ∙ e) in
+        let o_is : number_of b ≡ o = ap (λ (r : Option ℕ). unwrap_or r 0) (ap (option_map (λ f. f.number)) there ∙ g) in
+        let of_a = own_found t a (number_of a) own (ap (option_map (λ f. f.number)) at ∙ e ∙ ap Some (sym n_is)) ∙ ap (option_map (schema_field (pool_rows a.message.pool.inner))) at in
+        let of_b = own_found t b (number_of b) other (ap (option_map (λ f. f.number)) there ∙ g ∙ ap Some (sym o_is)) ∙ ap (option_map (schema_field (pool_rows b.message.pool.inner))) there in
+        let member : x.oneof ≡ Some j = cc in
+        let other_member : y.oneof ≡ Some k = cc in
+        members_siblings (known_of t) (number_of a) (number_of b) (schema_field (pool_rows a.message.pool.inner) x) (schema_field (pool_rows b.message.pool.inner) y) of_a of_b (λ z. apart (sym o_is ∙ z ∙ n_is))
+        ((λ i. same_oneof (other_member i) (member i)) ∙ eq-eqb k j same)

@@ -1,6 +1,6 @@
 -- The content of what is stored, and what each change makes of it.
 use Rattle.std.specs.Prelude.{◌≡◌, ◌++◌, ◌∷◌}
-use Rattle.prost_reflect_dynamic.proofs.Common.{ℕ, Bool, true, false, cond, nat_eq, List, [], Option, Some, None, refl, ap, sym, ◌∙◌, subst, unwrap_or, eqb-true, eqb-false, option_map, option_and_then, is_some, nat_cmp, is_at, IsStrictlySortedBy, keys_of, Record, Field, known, field_of, is_sibling, passes, Content, ContentOf, Slot, slot_at, entries_of, with_value, with_field_value, cleared, empty_slot, slots_same, eqb-sym, field_number, FieldSlot, PooledType, DynamicMessage, Value, roll-DynamicMessage, schema_at, type_at, IsAscending, item_at, known_of, is_known, are_siblings, Sound, set_value_at, prepared, value_of, content_of, entries_from, payloads_of, overwritten_at, written_at, value_set, value_cleared, with_unknown, unknown_added, value_without, records_without, ascending_without_values, ascending_put}
+use Rattle.prost_reflect_dynamic.proofs.Common.{ℕ, Bool, true, false, cond, nat_eq, List, [], Option, Some, None, refl, ap, sym, ◌∙◌, subst, unwrap_or, eqb-true, eqb-false, option_map, option_and_then, is_some, nat_cmp, is_at, IsStrictlySortedBy, keys_of, Record, Field, known, field_of, is_sibling, passes, Content, ContentOf, Slot, slot_at, entries_of, with_value, with_field_value, cleared, empty_slot, slots_same, eqb-sym, field_number, FieldSlot, PooledType, DynamicMessage, Value, roll-DynamicMessage, schema_at, type_at, IsAscending, item_at, known_of, is_known, are_siblings, Sound, set_value_at, prepared, value_of, content_of, entries_from, payloads_of, overwritten_at, value_written, written_at, value_set, value_cleared, with_unknown, unknown_added, value_without, records_without, ascending_without_values, ascending_put}
 use Rattle.prost_reflect_wire.specs.Content as contents
 use Rattle.prost_reflect_fields.specs.declared.slot.FieldSlot.TheVariants as entries
 use Rattle.prost_reflect_fields.specs.FieldSlots.{value_in, records_in, stored_at, records_at, has_value, put_value, clear_value, with_value as with_value_at, SameStored, UnknownAdded}
@@ -191,6 +191,14 @@ pub value_lent : (m : DynamicMessage) (n : ℕ) (default v : Value) → IsAscend
 value_lent m n default v s h =
     ap value_of (prepared_value (known_of m.fields.0) m.fields.1 n default v s h) ∙ unwrapped (stored_at m.fields.1 n) default
     ∙ ap (λ o. unwrap_or o (value_of default)) (value_of_message m n s)
+
+-- what is stored where it was written over
+pub stored_written : (fields : List Field) (es : List (ℕ × FieldSlot Value)) (n : ℕ) (default v : Value) → IsAscending es → stored_at (with_value_at (prepared fields es n default) n v) n ≡ Some v
+stored_written fields es n default v s = value_written (prepared fields es n default) n v ∙ cases (stored_at es n) refl
+  where
+    cases : (o : Option Value) → stored_at es n ≡ o → option_map (λ _. v) (stored_at (cond (is_some o) es (set_value_at fields es n default)) n) ≡ Some v
+    cases None at = ap (option_map (λ _. v)) (value_set_here fields es n default s)
+    cases (Some w) at = ap (option_map (λ _. v)) at
 
 -- what is left where the lent value was written over
 pub content_written : (m : DynamicMessage) (n : ℕ) (default v : Value) → IsAscending m.fields.1 → Sound (known_of m.fields.0) m.fields.1 → is_known (known_of m.fields.0) n ≡ true → content_of (written_at m n default v) ≡ value_set n (value_of v) (content_of m)

@@ -1,6 +1,6 @@
 -- Values whose messages are of their fields' types: scalars, lists, maps, and messages that are read into.
 use Rattle.std.specs.Prelude.{◌≡◌, ◌&&◌, ◌∷◌, ◌++◌}
-use Rattle.prost_reflect_dynamic.proofs.Common.{ℕ, Bool, true, false, nat_eq, List, [], Option, None, Some, refl, sym, ap, ◌∙◌, subst, unwrap_or, true≢false, Vec, Global, and_parts, and_from, eq-eqb, BTreeMap, insert_entry, option_and_then, option_map, is_some, match_ordering, Ordering, Less, Equal, Greater, Content, ContentOf, ScalarValue, schema_of, type_of, entries_of, values_in, Scalar, ScalarKind, Enum, Kind, ScalarOf, FieldForm, Repeated, Field, known, field_of, passes, own_kind, element_valid, elements_valid, WellStored, field_number, IsListed, rows_eq, rows_decide, TableRows, TableKind, contents_eq, contents_decide, pool_contents, pool_rows, PooledType, rows_same, IsAscending, known_of, stored_at, compare_keys, DynamicMessage, MapKey, Value, out-Value, Value-F, fold_out-Value, map-Value, kind_place, place_for, stands_there, all_typed, value_typed, items_typed, pairs_typed, ListField, NestedMap, NumberList, StoredMessage, StoredValue, StoredScalar, StoredInside, StoredList, StoredMap, StoredItems, NoItems, ItemThen, StoredPairs, stored_items, stored_pairs, stored_step, stored_message_step, value_stored, message_stored, nested_kind, NestedField, NestedList, typed_as, typed_at, element_typed, entry_typed, StaysTyped, ValueStaysTyped, item_last, item_added, list_in, message_in, value_of, content_of, message_type_of, stored_in, overwritten_at, written_at}
+use Rattle.prost_reflect_dynamic.proofs.Common.{ℕ, Bool, true, false, nat_eq, List, [], Option, None, Some, refl, sym, ap, ◌∙◌, subst, unwrap_or, true≢false, Vec, Global, and_parts, and_from, eq-eqb, BTreeMap, insert_entry, option_and_then, option_map, is_some, match_ordering, Ordering, Less, Equal, Greater, Content, ContentOf, ScalarValue, ListValue, MapValue, NoValues, schema_of, type_of, entries_of, values_in, Scalar, ScalarKind, Enum, Kind, ScalarOf, FieldForm, Repeated, Field, known, field_of, passes, own_kind, element_valid, elements_valid, WellStored, field_number, IsListed, rows_eq, rows_decide, TableRows, TableKind, contents_eq, contents_decide, pool_contents, pool_rows, PooledType, rows_same, IsAscending, known_of, stored_at, compare_keys, DynamicMessage, MapKey, Value, out-Value, Value-F, fold_out-Value, map-Value, kind_place, place_for, stands_there, all_typed, value_typed, items_typed, pairs_typed, ListField, NestedMap, NumberList, StoredMessage, StoredValue, StoredScalar, StoredInside, StoredList, StoredMap, StoredItems, NoItems, ItemThen, StoredPairs, PairThen, stored_items, stored_pairs, stored_step, stored_message_step, value_stored, message_stored, nested_kind, NestedField, NestedList, typed_as, typed_at, element_typed, entry_typed, StaysTyped, ValueStaysTyped, item_last, item_added, list_in, message_in, value_of, content_of, message_type_of, stored_in, overwritten_at, written_at}
 use Rattle.prost_reflect_wire.specs.Content as contents
 use Rattle.prost_reflect_laws.proofs.ListReads.{StoredList as ListFits, stored_list as list_fits}
 use Rattle.prost_reflect_pool.specs.Pools as pools
@@ -23,6 +23,22 @@ module _ (files : List Content) (rows : TableRows) (place : Option ℕ) where
   scalar_alone (StoredInside m) x h = cc
   scalar_alone (StoredList vs) x h = cc
   scalar_alone (StoredMap ps) x h = cc
+
+  list_alone : (s : StoredValue) → value_content s ≡ ListValue NoValues → value_typed files rows place s ≡ true
+  unfolding value_content
+  list_alone (StoredScalar y) h = refl
+  list_alone (StoredInside m) h = cc
+  list_alone (StoredList NoItems) h = refl
+  list_alone (StoredList (ItemThen v vs)) h = cc
+  list_alone (StoredMap ps) h = cc
+
+  map_alone : (s : StoredValue) → value_content s ≡ MapValue contents.NoPairs → value_typed files rows place s ≡ true
+  unfolding value_content
+  map_alone (StoredScalar y) h = refl
+  map_alone (StoredInside m) h = cc
+  map_alone (StoredList vs) h = cc
+  map_alone (StoredMap NoPairs) h = refl
+  map_alone (StoredMap (PairThen k v ps)) h = cc
 
   pub scalar_typed : (v : Value) (x : Scalar) → value_of v ≡ ScalarValue x → value_typed files rows place (value_stored v) ≡ true
   scalar_typed v x h = scalar_alone (value_stored v) x (value_follows v ∙ h)
@@ -51,6 +67,13 @@ module _ (d : PooledType) (n : ℕ) (v : Value) (x : Scalar) (is : value_of v �
 
   pub scalar_entry : entry_typed d n (value_stored v) ≡ true
   scalar_entry = scalar_typed (pool_contents d.pool) (pool_rows d.pool) (place_for (field_of (known_of d) n) (StoredMap NoPairs)) v x is
+
+-- and so is an empty list, and an empty map
+pub empty_list_there : (d : PooledType) (n : ℕ) (v : Value) → value_of v ≡ ListValue NoValues → typed_at d n (value_stored v) ≡ true
+empty_list_there d n v is = list_alone (pool_contents d.pool) (pool_rows d.pool) (place_for (field_of (known_of d) n) (value_stored v)) (value_stored v) (value_follows v ∙ is)
+
+pub empty_map_there : (d : PooledType) (n : ℕ) (v : Value) → value_of v ≡ MapValue contents.NoPairs → typed_at d n (value_stored v) ≡ true
+empty_map_there d n v is = map_alone (pool_contents d.pool) (pool_rows d.pool) (place_for (field_of (known_of d) n) (value_stored v)) (value_stored v) (value_follows v ∙ is)
 
 -- LISTS
 
@@ -218,7 +241,7 @@ module _ (files : List Content) (rows : TableRows) (place : Option ℕ) where
       and_from (stands_there files rows place (message_stored new)) (all_typed (message_stored new)) (stands_is new ∙ ap stands_by type ∙ sym (stands_is old) ∙ there) (stays.typed inside)
 
 -- what a value stores that holds this message
-message_held : (v : Value) (m : DynamicMessage) → message_in (out-Value v) ≡ Some m → value_stored v ≡ StoredInside (message_stored m)
+pub message_held : (v : Value) (m : DynamicMessage) → message_in (out-Value v) ≡ Some m → value_stored v ≡ StoredInside (message_stored m)
 message_held v m h = fold_out-Value StoredValue StoredMessage stored_step stored_message_step v ∙ go (out-Value v) h
   where
     go : (x : Value-F Value DynamicMessage) → message_in x ≡ Some m → stored_step (map-Value Value DynamicMessage StoredValue StoredMessage value_stored message_stored x) ≡ StoredInside (message_stored m)
@@ -243,18 +266,21 @@ held_stays v old new is type stays = record {
       ap (value_typed files rows place) (stored_inside new) ∙ message_stays files rows place old new type stays (sym (ap (value_typed files rows place) (message_held v old is)) ∙ h);
 }
 
--- a message that stores nothing, of the type at a place of the same pool
-pub empty_typed : (d t : PooledType) (T : ℕ) (m : DynamicMessage) → t.pool.value ≡ d.pool.value → t.index ≡ T → message_type_of m ≡ t → stored_in m ≡ [] → typed_as d (Some T) (StoredInside (message_stored m)) ≡ true
-empty_typed d t T m pool index type none =
-    let files : pool_contents d.pool ≡ pool_contents (message_type_of m).pool = sym (ap (λ (c : PooledType). pool_contents c.pool) type ∙ ap pools.pool_contents pool) in
+-- a message that stores nothing, of the type at a place of a pool of the same files
+pub empty_there : (d : PooledType) (T : ℕ) (m : DynamicMessage) → pool_contents d.pool ≡ pool_contents (message_type_of m).pool → (message_type_of m).index ≡ T → stored_in m ≡ [] → typed_as d (Some T) (StoredInside (message_stored m)) ≡ true
+empty_there d T m files index none =
     and_from (stands_there (pool_contents d.pool) (pool_rows d.pool) (Some T) (message_stored m)) (all_typed (message_stored m))
     (stands_is (pool_contents d.pool) (pool_rows d.pool) (Some T) m
     ∙ and_from (nat_eq (message_type_of m).index T) (contents_eq (pool_contents d.pool) (pool_contents (message_type_of m).pool) && rows_eq (pool_rows d.pool) (pool_rows (message_type_of m).pool))
-    (eq-eqb (message_type_of m).index T (ap (λ (c : PooledType). c.index) type ∙ index))
+    (eq-eqb (message_type_of m).index T index)
     (and_from (contents_eq (pool_contents d.pool) (pool_contents (message_type_of m).pool)) (rows_eq (pool_rows d.pool) (pool_rows (message_type_of m).pool))
     ((contents_decide (pool_contents d.pool) (pool_contents (message_type_of m).pool)).1 files)
     ((rows_decide (pool_rows d.pool) (pool_rows (message_type_of m).pool)).1 (rows_same d.pool (message_type_of m).pool files))))
     (nothing_typed m none)
+
+-- the same of one pool
+pub empty_typed : (d t : PooledType) (T : ℕ) (m : DynamicMessage) → t.pool.value ≡ d.pool.value → t.index ≡ T → message_type_of m ≡ t → stored_in m ≡ [] → typed_as d (Some T) (StoredInside (message_stored m)) ≡ true
+empty_typed d t T m pool index type none = empty_there d T m (sym (ap (λ (c : PooledType). pool_contents c.pool) type ∙ ap pools.pool_contents pool)) (ap (λ (c : PooledType). c.index) type ∙ index) none
 
 -- FIELDS OF MESSAGES
 
@@ -266,7 +292,7 @@ nested_place kind T g is = ap kind_place is ∙ cases g
     cases false = refl
 
 -- a field that is no map has one place for whatever is stored
-own_place : (f : Field) (s : StoredValue) → own_kind f.form f.value_type.kind ≡ Some f.value_type.kind → place_for (Some f) s ≡ kind_place f.value_type.kind
+pub own_place : (f : Field) (s : StoredValue) → own_kind f.form f.value_type.kind ≡ Some f.value_type.kind → place_for (Some f) s ≡ kind_place f.value_type.kind
 own_place f (StoredScalar x) own = ap (option_and_then kind_place) own
 own_place f (StoredInside m) own = ap (option_and_then kind_place) own
 own_place f (StoredList vs) own = ap (option_and_then kind_place) own

@@ -1,7 +1,10 @@
 -- What holds of each step of a walk holds of what it gives.
 use Rattle.std.specs.Prelude.{◌≡◌, ◌∷◌}
-use Rattle.prost_reflect_dynamic.proofs.Common.{ℕ, zero, suc, List, [], Option, Some, Bor, sym, subst, ap, ◌∙◌, Result, IfOk, IfSome, slice_get, AllByRecursion, AllocError, Ok, Err, GivesNext, places_left, EachGiven, GivesEach, descriptor_steps}
+use Rattle.prost_reflect_dynamic.proofs.Common.{ℕ, zero, suc, List, [], Option, Some, Bor, sym, subst, ap, ◌∙◌, Result, IfOk, IfSome, slice_get, AllByRecursion, All, recursion_from_All, AllocError, Global, Ok, Err, GivesNext, places_left, EachGiven, EachTaken, GivesEach, descriptor_steps}
 use Rattle.std.specs.Iterator.{Yields}
+use Rattle.std.specs.Iterator.Runs.{EachRunFrom, AllItems}
+use Rattle.std.specs.Vec.Iter.{into_iter_items, into_iter_steps}
+use Rattle.std.specs.declared.vec.IntoIter.{IntoIter}
 use Rattle.std.proofs.iter.runs.Made.{took, each}
 use Rattle.prost_reflect_dynamic.specs.declared.descriptor.iter.Placed.{Ghosts}
 use Rattle.prost_reflect_dynamic.specs.declared.descriptor.iter.Descriptors.{Descriptors}
@@ -11,14 +14,26 @@ everywhere P [] h k = tt
 everywhere P (x ∷ xs) h zero = h.0
 everywhere P (x ∷ xs) h (suc k) = everywhere P xs h.1 k
 
-module _ {A S : Type 0} (steps : S → Option (Result A AllocError) → S → Type 0) (Holds : S → Type 0) (Given : A → Type 0)
-    (one : (s t : S) (x : Result A AllocError) → Holds s → steps s (Some x) t → IfOk x Given × Holds t) where
-  along : (xs : List (Result A AllocError)) (s t : S) → Holds s → Yields steps s xs t → AllByRecursion (λ r. IfOk r Given) xs
+module _ {A S : Type 0} (steps : S → Option A → S → Type 0) (Holds : S → Type 0) (Given : A → Type 0) (one : (s t : S) (x : A) → Holds s → steps s (Some x) t → Given x × Holds t) where
+  along : (xs : List A) (s t : S) → Holds s → Yields steps s xs t → AllByRecursion Given xs
   along [] s t h y = tt
-  along (x ∷ xs) s t h y = let n : IfOk x Given × Holds y.0 = one s y.0 x h y.1 in (n.0, along xs y.0 t n.1 y.2)
+  along (x ∷ xs) s t h y = let n : Given x × Holds y.0 = one s y.0 x h y.1 in (n.0, along xs y.0 t n.1 y.2)
 
-  pub gives : (it : S) → Holds it → EachGiven steps Given it
-  gives it h p _ is = each p (λ r. IfOk r Given) (everywhere (λ r. IfOk r Given) p.items (along p.items p.from (took p).0 (subst Holds (sym is) h) (took p).1))
+  gives_all : (it : S) → Holds it → EachRunFrom steps it (λ p. AllItems p Given)
+  gives_all it h p _ is = each p Given (everywhere Given p.items (along p.items p.from (took p).0 (subst Holds (sym is) h) (took p).1))
+
+pub gives : {A S : Type 0} (steps : S → Option (Result A AllocError) → S → Type 0) (Holds : S → Type 0) (Given : A → Type 0) → ((s t : S) (x : Result A AllocError) → Holds s → steps s (Some x) t → IfOk x Given × Holds t) → (it : S) → Holds it
+    → EachGiven steps Given it
+gives steps Holds Given = gives_all steps Holds (λ r. IfOk r Given)
+
+-- TAKEN LISTS
+
+next_taken : {A : Type 0} (Taken : A → Type 0) (s t : IntoIter A Global) (x : A) → AllByRecursion Taken (into_iter_items s) → into_iter_steps s (Some x) t → Taken x × AllByRecursion Taken (into_iter_items t)
+next_taken Taken s t x h g = subst (AllByRecursion Taken) g.0 h
+
+-- what holds of the items of a list holds of each that is taken of it
+pub each_taken : {A : Type 0} (Taken : A → Type 0) (it : IntoIter A Global) → All Taken (into_iter_items it) → EachTaken Taken it
+each_taken Taken it all = gives_all into_iter_steps (λ s. AllByRecursion Taken (into_iter_items s)) Taken (next_taken Taken) it (recursion_from_All Taken (into_iter_items it) all)
 
 -- DESCRIPTORS
 

@@ -1,5 +1,5 @@
 -- What a message has at a number, and which fields are its own (the guide on field presence).
-use Rattle.std.specs.Prelude.{◌≡◌, ℕ, Bool, if◌then◌else◌, List, Option, Some, None, is_some, option_map, option_and_then, unwrap_or, slice_get, true, false, IfSome}
+use Rattle.std.specs.Prelude.{◌≡◌, ◌≢◌, ℕ, Bool, if◌then◌else◌, List, Option, Some, None, is_some, option_map, option_and_then, unwrap_or, slice_get, true, false, IfSome}
 use Rattle.std.specs.Cow.{cow_value, IsBorrowed}
 use Rattle.std.specs.declared.borrow.Cow.{Cow}
 use Rattle.prost_reflect_wire.specs.Schema.{Field, field_of, passes}
@@ -64,9 +64,13 @@ has_at n c = is_some (value_at n (entries_of (kept c)))
 abbrev pub had_at : ℕ → DynamicMessage → Option Value
 had_at n m = if has_at n (content_of m) then stored_at (stored_in m) n else None
 
+-- A value is what the field of the number has where nothing is stored.
+abbrev pub says_nothing : List Field → ℕ → Value → Bool
+says_nothing fields n v = passes (field_of fields n) (λ f. is_field_default f (kept_inside (value_of v)))
+
 -- A value at a number of these fields, unless it says nothing.
 abbrev pub saying : List Field → ℕ → Value → Option Value
-saying fields n v = if passes (field_of fields n) (λ f. is_field_default f (kept_inside (value_of v))) then None else Some v
+saying fields n v = if says_nothing fields n v then None else Some v
 
 -- WHAT IS GOT
 
@@ -123,6 +127,11 @@ IsLentIf (Some n) m lent = IsLentOf m n lent
 -- Of the members of a oneof a message has one at most.
 abbrev pub HasOneMember : DynamicMessage → Type 0
 HasOneMember m = (k n : ℕ) → are_siblings (known_of (message_type_of m)) k n ≡ true → has_at k (content_of m) ≡ true → has_at n (content_of m) ≡ false
+
+-- So of two fields of the message's own type, of other numbers and of one oneof, it has one at most. Oneofs are told by their places.
+abbrev pub HasOneField : DynamicMessage → Type 0
+HasOneField m = (a b : FieldDescriptor) (j k n o : ℕ) → IsOwnField (message_type_of m) a → IsOwnField (message_type_of m) b → option_map (λ f. f.oneof) (row_at a) ≡ Some (Some j) → option_map (λ f. f.oneof) (row_at b) ≡ Some (Some k) → k ≡ j
+    → option_map (λ f. f.number) (row_at a) ≡ Some n → option_map (λ f. f.number) (row_at b) ≡ Some o → o ≢ n → has_at (number_of a) (content_of m) ≡ true → has_at (number_of b) (content_of m) ≡ false
 
 -- What is shown is in the content: the value of the number, or else the field's default.
 abbrev pub ShownContent : Type 0

@@ -61,6 +61,8 @@ impl ExtensionDescriptor {
     ghost use Rattle.prost_reflect_tables.specs.Shown.{schema_field};
     ghost use Rattle.prost_reflect_pool.specs.RecordPaths.{FieldRecord, record_of};
     ghost use Rattle.prost_reflect_pool.specs.SharedPools.{files_of, pool_rows};
+    ghost use Rattle.prost_reflect_wire.specs.Typing.{fit_test, value_passes};
+    ghost use Rattle.prost_reflect_dynamic.specs.Edits.{IsWholeForExtension};
     ghost use Rattle.prost_reflect_dynamic.specs.ExtensionAccess.{IsOwnExtension, extension_takes};
     ghost use Rattle.prost_reflect_dynamic.specs.NamedExtensions.{extension_named, extension_row_named};
     ghost use Rattle.prost_reflect_dynamic.specs.NamedKinds.{table_kind, IsAmong};
@@ -267,6 +269,8 @@ impl ExtensionDescriptor {
         ensures value { IfOk result (λ value. Some (value_of value) ≡ extension_default self.now) }
         ensures default { IfOk result (IsExtensionDefault self.now) }
         ensures valid { IfOk result (λ value. extension_takes self.now value ≡ true) }
+        ensures fits { IfOk result (λ value. value_passes fit_test (value_of value) ≡ true) }
+        ensures whole { IfOk result (IsWholeForExtension self.now) }
     {
         default_value(alloc, &self.pool.inner, self.table())
     }

@@ -61,7 +61,9 @@ impl FieldDescriptor {
     ghost use Rattle.prost_reflect_dynamic.specs.NamedField.{row_at};
     ghost use Rattle.prost_reflect_dynamic.specs.NamedKinds.{table_kind, IsAmong};
     ghost use Rattle.prost_reflect_dynamic.specs.Options.{OptionsOf};
+    ghost use Rattle.prost_reflect_wire.specs.Typing.{fit_test, value_passes};
     ghost use Rattle.prost_reflect_dynamic.specs.Access.{takes};
+    ghost use Rattle.prost_reflect_dynamic.specs.Edits.{IsWholeFor};
     ghost use Rattle.prost_reflect_dynamic.specs.Defaults.{field_default, IsFieldDefault};
     ghost use Rattle.prost_reflect_dynamic.specs.View.{value_of};
 
@@ -263,6 +265,8 @@ impl FieldDescriptor {
         ensures value { IfOk result (λ value. Some (value_of value) ≡ field_default self.now) }
         ensures default { IfOk result (IsFieldDefault self.now) }
         ensures valid { IfOk result (λ value. takes self.now value ≡ true) }
+        ensures fits { IfOk result (λ value. value_passes fit_test (value_of value) ≡ true) }
+        ensures whole { IfOk result (IsWholeFor self.now) }
     {
         default_value(alloc, &self.parent_pool().inner, self.table())
     }

@@ -2,6 +2,7 @@
 
 ghost use Rattle.std.specs.Prelude.{◌≡◌, ◌↔◌, ◌<◌, ◌&&◌, IsTrue, true, false, None, Some, is_some, option_and_then, if◌then◌else◌, OnOk, OnErr, IfOk, IfSome, IsOk};
 ghost use Rattle.std.specs.Borrow.{LendsIfOk, sem};
+ghost use Rattle.std.specs.Cow.{cow_value};
 ghost use Rattle.std.specs.Option.{option_copied};
 ghost use Rattle.prost_reflect_wire.specs.Content.{entries_of, value_at};
 ghost use Rattle.prost_reflect_dynamic.specs.Depths.{LendsInside, ShownInside};
@@ -9,12 +10,13 @@ ghost use Rattle.prost_reflect_dynamic.specs.contracts.message.DynamicMessage.{t
 ghost use Rattle.prost_reflect_dynamic.specs.contracts.value.Value as value;
 ghost use Rattle.prost_reflect_dynamic.specs.declared.message.DynamicMessage.{size-DynamicMessage};
 ghost use Rattle.prost_reflect_dynamic.specs.declared.value.Value.{Value, size-Value};
-ghost use Rattle.prost_reflect_wire.specs.Schema.{field_of, passes};
-ghost use Rattle.prost_reflect_wire.specs.Typing.{kept_inside, is_field_default};
-ghost use Rattle.prost_reflect_dynamic.specs.Edits.{LeavesSet, Removes, Sets};
+ghost use Rattle.prost_reflect_wire.specs.Schema.{passes};
+ghost use Rattle.prost_reflect_dynamic.specs.Edits.{IsPart, LeavesMessage, LeavesSet, Removes, Sets};
 ghost use Rattle.prost_reflect_fields.specs.Known.{known_of, is_known};
-ghost use Rattle.prost_reflect_dynamic.specs.Access.{IsOwnField, number_of, is_field_number, number_declared, takes, takes_at, has_at, had_at, saying, IsDefaultAt, Shows, ShowsIf, IsLentOf, left_at};
+ghost use Rattle.prost_reflect_dynamic.specs.Access.{IsOwnField, number_of, is_field_number, number_declared, takes, takes_at, has_at, had_at, saying, says_nothing, IsDefaultAt, Shows, ShowsIf, IsLentOf, left_at};
 ghost use Rattle.prost_reflect_dynamic.specs.Contents.{cleared_if, value_set};
+ghost use Rattle.prost_reflect_dynamic.specs.Stored.{value_stored};
+ghost use Rattle.prost_reflect_dynamic.specs.TypedSteps.{typed_at};
 ghost use Rattle.prost_reflect_dynamic.specs.View.{value_of, content_of, message_type_of};
 
 mod by_name;
@@ -80,6 +82,7 @@ impl DynamicMessage {
         requires { IsOwnField (message_type_of self.now) field.now }
         ensures shown { IfOk result (Shows self.now (number_of field.now)) }
         ensures inside { IfOk result (ShownInside self.now) }
+        ensures part { IfOk result (λ shown. IsPart self.now (number_of field.now) (cow_value shown)) }
     {
         self.value_or_default(alloc, field.number())
     }
@@ -97,6 +100,7 @@ impl DynamicMessage {
     ) -> Result<Option<Cow<'_, Value>>, AllocError>
         ensures shown { IfOk result (ShowsIf (is_field_number (message_type_of self.now) number) self.now number) }
         ensures inside { IfOk result (λ found. IfSome found (ShownInside self.now)) }
+        ensures part { IfOk result (λ found. IfSome found (λ shown. IsPart self.now number (cow_value shown))) }
         ensures missing { is_field_number (message_type_of self.now) number ≡ false → IsOk result }
     {
         if self.is_field_number(number) {
@@ -138,8 +142,10 @@ impl DynamicMessage {
         requires { IsOwnField (message_type_of self.old) field.now }
         ensures* writes_back { sem 𝓛 (LendsIfOk the_row value.the_row self.entry result (left_at self.old (number_of field.now)) self.old) }
         ensures value { IfOk result (λ lent. IsLentOf self.old (number_of field.now) lent.now) }
+        ensures part { IfOk result (λ lent. IsPart self.old (number_of field.now) lent.now) }
         ensures inside { IfOk result (λ lent. LendsInside (Some (number_of field.now)) self.old lent.now) }
         ensures sets { OnOk result (LeavesSet (Some (number_of field.now)) self.old) }
+        ensures message { IfOk result (λ lent. LeavesMessage (Some (number_of field.now)) self.old lent.now) }
         ensures message_type { (v : Value) → message_type_of (left_at self.old (number_of field.now) v) ≡ message_type_of self.old }
         ensures content { OnOk result ((v : Value) → content_of (left_at self.old (number_of field.now) v) ≡ value_set (number_of field.now) (value_of v) (content_of self.old)) }
     {
@@ -173,6 +179,7 @@ impl DynamicMessage {
         requires { IsOwnField (message_type_of self.old) field.now }
         ensures value { result ≡ had_at (number_of field.now) self.old }
         ensures inside { IfSome result (λ value. size-Value value < size-DynamicMessage self.old) }
+        ensures part { IfSome result (IsPart self.old (number_of field.now)) }
         ensures removes { Removes (cleared_if (Some (number_of field.now))) self.old self.new }
         ensures gone { has_at (number_of field.now) (content_of self.new) ≡ false }
     {
@@ -183,6 +190,7 @@ impl DynamicMessage {
     pub fn take_field_by_number(&mut self, number: u32) -> Option<Value>
         ensures value { result ≡ (if is_field_number (message_type_of self.old) number then had_at number self.old else None) }
         ensures inside { IfSome result (λ value. size-Value value < size-DynamicMessage self.old) }
+        ensures part { IfSome result (IsPart self.old number) }
         ensures removes { Removes (cleared_if (number_declared (message_type_of self.old) number)) self.old self.new }
         ensures gone { passes (number_declared (message_type_of self.old) number) (λ n. has_at n (content_of self.new)) ≡ false }
         ensures unchanged { is_field_number (message_type_of self.old) number ≡ false → self.new ≡ self.old }
@@ -271,6 +279,7 @@ impl DynamicMessage {
         requires { is_known (known_of (message_type_of self.now)) number ≡ true }
         ensures shown { IfOk result (Shows self.now number) }
         ensures inside { IfOk result (ShownInside self.now) }
+        ensures part { IfOk result (λ shown. IsPart self.now number (cow_value shown)) }
     {
         match self.stored_value(number) {
             Some(value) => Ok(Cow::Borrowed(value)),
@@ -287,8 +296,10 @@ impl DynamicMessage {
         requires { is_known (known_of (message_type_of self.old)) number ≡ true }
         ensures* writes_back { sem 𝓛 (LendsIfOk the_row value.the_row self.entry result (left_at self.old number) self.old) }
         ensures value { IfOk result (λ lent. IsLentOf self.old number lent.now) }
+        ensures part { IfOk result (λ lent. IsPart self.old number lent.now) }
         ensures inside { IfOk result (λ lent. LendsInside (Some number) self.old lent.now) }
         ensures sets { OnOk result (LeavesSet (Some number) self.old) }
+        ensures message { IfOk result (λ lent. LeavesMessage (Some number) self.old lent.now) }
         ensures message_type { (v : Value) → message_type_of (left_at self.old number v) ≡ message_type_of self.old }
         ensures content { OnOk result ((v : Value) → content_of (left_at self.old number v) ≡ value_set number (value_of v) (content_of self.old)) }
     {
@@ -301,7 +312,8 @@ impl DynamicMessage {
     /// The default of the field or extension of a number where nothing is stored, and any value where something is.
     fn default_if_absent(&self, alloc: Global, number: u32) -> Result<Value, AllocError>
         requires { is_known (known_of (message_type_of self.now)) number ≡ true }
-        ensures { IfOk result (λ v. value_at number (entries_of (content_of self.now)) ≡ None → IsDefaultAt (message_type_of self.now) number v) }
+        ensures default { IfOk result (λ v. value_at number (entries_of (content_of self.now)) ≡ None → IsDefaultAt (message_type_of self.now) number v) }
+        ensures typed { IfOk result (λ v. value_at number (entries_of (content_of self.now)) ≡ None → typed_at (message_type_of self.now) number (value_stored v) ≡ true) }
     {
         match self.stored_value(number) {
             Some(_) => Ok(Value::Bool(false)),
@@ -330,6 +342,7 @@ impl DynamicMessage {
     pub(super) fn take_had(&mut self, number: u32) -> Option<Value>
         ensures value { result ≡ had_at number self.old }
         ensures inside { IfSome result (λ value. size-Value value < size-DynamicMessage self.old) }
+        ensures part { IfSome result (IsPart self.old number) }
         ensures removes { Removes (cleared_if (Some number)) self.old self.new }
         ensures gone { has_at number (content_of self.new) ≡ false }
     {
@@ -341,7 +354,8 @@ impl DynamicMessage {
 /// What the field or extension of a number has where nothing is stored.
 fn default_at(alloc: Global, message_type: &PooledType, number: u32) -> Result<Value, AllocError>
     requires { is_known (known_of message_type.now) number ≡ true }
-    ensures { IfOk result (IsDefaultAt message_type.now number) }
+    ensures default { IfOk result (IsDefaultAt message_type.now number) }
+    ensures typed { IfOk result (λ v. typed_at message_type.now number (value_stored v) ≡ true) }
 {
     match message_type.field_table(number) {
         Some(field) => default_value(alloc, message_type, field),
@@ -363,7 +377,7 @@ pub(super) fn saying(message_type: &PooledType, number: u32, value: Option<Value
 
 /// Whether a value is what the field of the number has where nothing is stored, and so no value of the message.
 fn says_nothing(message_type: &PooledType, number: u32, value: &Value) -> bool
-    ensures { result ≡ passes (field_of (known_of message_type.now) number) (λ f. is_field_default f (kept_inside (value_of value.now))) }
+    ensures { result ≡ says_nothing (known_of message_type.now) number value.now }
 {
     match message_type.field_table(number) {
         Some(field) => is_field_default(message_type, field, value),

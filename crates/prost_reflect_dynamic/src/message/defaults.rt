@@ -9,6 +9,7 @@ ghost use Rattle.prost_reflect_tables.specs.Rows.{field_row};
 ghost use Rattle.prost_reflect_tables.specs.Shown.{schema_field, own_type};
 ghost use Rattle.prost_reflect_pool.specs.MessageTypes.{schema_at};
 ghost use Rattle.prost_reflect_pool.specs.SharedPools.{pool_rows};
+ghost use Rattle.prost_reflect_dynamic.specs.Defaults.{IsRowDefault};
 ghost use Rattle.prost_reflect_dynamic.specs.Scalars.{scalar_of};
 ghost use Rattle.prost_reflect_dynamic.specs.View.{value_of};
 
@@ -40,7 +41,8 @@ pub(crate) fn default_value(
     field: &FieldTable,
 ) -> Result<Value, AllocError>
     requires { field_valid (schema_at message_type.now) (schema_field (pool_rows message_type.now.pool) (field_row field.now)) ≡ true }
-    ensures { IfOk result (λ v. value_of v ≡ default_value (schema_at message_type.now) (schema_field (pool_rows message_type.now.pool) (field_row field.now)).form (schema_field (pool_rows message_type.now.pool) (field_row field.now)).value_type) }
+    ensures default { IfOk result (IsRowDefault message_type.now.pool (field_row field.now)) }
+    ensures value { IfOk result (λ v. value_of v ≡ default_value (schema_at message_type.now) (schema_field (pool_rows message_type.now.pool) (field_row field.now)).form (schema_field (pool_rows message_type.now.pool) (field_row field.now)).value_type) }
 {
     defaults::default_value(alloc, message_type.pool(), field)
 }

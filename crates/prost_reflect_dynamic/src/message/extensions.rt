@@ -2,6 +2,7 @@
 
 ghost use Rattle.std.specs.Prelude.{◌≡◌, ◌↔◌, ◌<◌, IsTrue, true, false, Some, OnOk, OnErr, IfOk, IfSome};
 ghost use Rattle.std.specs.Borrow.{LendsIfOk, sem};
+ghost use Rattle.std.specs.Cow.{cow_value};
 ghost use Rattle.prost_reflect_dynamic.specs.contracts.message.DynamicMessage.{the_row};
 ghost use Rattle.prost_reflect_dynamic.specs.contracts.value.Value as value;
 ghost use Rattle.prost_reflect_dynamic.specs.declared.message.DynamicMessage.{size-DynamicMessage};
@@ -9,7 +10,7 @@ ghost use Rattle.prost_reflect_dynamic.specs.declared.value.Value.{Value, size-V
 ghost use Rattle.prost_reflect_dynamic.specs.Access.{has_at, had_at, Shows, IsLentOf, left_at};
 ghost use Rattle.prost_reflect_dynamic.specs.Contents.{cleared_if, value_set};
 ghost use Rattle.prost_reflect_dynamic.specs.Depths.{LendsInside, ShownInside};
-ghost use Rattle.prost_reflect_dynamic.specs.Edits.{LeavesSet, Removes, Sets};
+ghost use Rattle.prost_reflect_dynamic.specs.Edits.{IsPart, LeavesMessage, LeavesSet, Removes, Sets};
 ghost use Rattle.prost_reflect_dynamic.specs.ExtensionAccess.{IsOwnExtension, extension_number, extension_takes};
 ghost use Rattle.prost_reflect_dynamic.specs.View.{value_of, content_of, message_type_of};
 
@@ -61,6 +62,7 @@ impl DynamicMessage {
         requires { IsOwnExtension (message_type_of self.now) extension.now }
         ensures shown { IfOk result (Shows self.now (extension_number extension.now)) }
         ensures inside { IfOk result (ShownInside self.now) }
+        ensures part { IfOk result (λ shown. IsPart self.now (extension_number extension.now) (cow_value shown)) }
     {
         self.value_or_default(alloc, extension.number())
     }
@@ -80,8 +82,10 @@ impl DynamicMessage {
         requires { IsOwnExtension (message_type_of self.old) extension.now }
         ensures* writes_back { sem 𝓛 (LendsIfOk the_row value.the_row self.entry result (left_at self.old (extension_number extension.now)) self.old) }
         ensures value { IfOk result (λ lent. IsLentOf self.old (extension_number extension.now) lent.now) }
+        ensures part { IfOk result (λ lent. IsPart self.old (extension_number extension.now) lent.now) }
         ensures inside { IfOk result (λ lent. LendsInside (Some (extension_number extension.now)) self.old lent.now) }
         ensures sets { OnOk result (LeavesSet (Some (extension_number extension.now)) self.old) }
+        ensures message { IfOk result (λ lent. LeavesMessage (Some (extension_number extension.now)) self.old lent.now) }
         ensures message_type { (v : Value) → message_type_of (left_at self.old (extension_number extension.now) v) ≡ message_type_of self.old }
         ensures content { OnOk result ((v : Value) → content_of (left_at self.old (extension_number extension.now) v) ≡ value_set (extension_number extension.now) (value_of v) (content_of self.old)) }
     {
@@ -105,6 +109,7 @@ impl DynamicMessage {
         requires { IsOwnExtension (message_type_of self.old) extension.now }
         ensures value { result ≡ had_at (extension_number extension.now) self.old }
         ensures inside { IfSome result (λ value. size-Value value < size-DynamicMessage self.old) }
+        ensures part { IfSome result (IsPart self.old (extension_number extension.now)) }
         ensures removes { Removes (cleared_if (Some (extension_number extension.now))) self.old self.new }
         ensures gone { has_at (extension_number extension.now) (content_of self.new) ≡ false }
     {

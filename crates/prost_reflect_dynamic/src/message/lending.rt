@@ -1,9 +1,9 @@
 //! Fields that are lent for writing by their numbers and by their names.
 
-ghost use Rattle.std.specs.Prelude.{◌≡◌, IfErr, IfOk, OnOk};
+ghost use Rattle.std.specs.Prelude.{◌≡◌, IfErr, IfOk, IfSome, OnOk};
 ghost use Rattle.std.specs.Borrow.{LendsIfOk, sem};
 ghost use Rattle.prost_reflect_dynamic.specs.Depths.{LendsInside};
-ghost use Rattle.prost_reflect_dynamic.specs.Edits.{LeavesSet};
+ghost use Rattle.prost_reflect_dynamic.specs.Edits.{IsPart, LeavesMessage, LeavesSet};
 ghost use Rattle.prost_reflect_dynamic.specs.contracts.message.DynamicMessage.{the_row};
 ghost use Rattle.prost_reflect_dynamic.specs.contracts.value.Value as value;
 ghost use Rattle.prost_reflect_dynamic.specs.declared.value.Value.{Value};
@@ -43,8 +43,10 @@ impl DynamicMessage {
     ) -> Result<&mut Value, GetFieldError>
         ensures* writes_back { sem 𝓛 (LendsIfOk the_row value.the_row self.entry result (left_if (number_declared (message_type_of self.old) number) self.old) self.old) }
         ensures value { IfOk result (λ lent. IsLentIf (number_declared (message_type_of self.old) number) self.old lent.now) }
+        ensures part { IfOk result (λ lent. IsPart self.old number lent.now) }
         ensures inside { IfOk result (λ lent. LendsInside (number_declared (message_type_of self.old) number) self.old lent.now) }
         ensures sets { OnOk result (LeavesSet (number_declared (message_type_of self.old) number) self.old) }
+        ensures message { IfOk result (λ lent. LeavesMessage (number_declared (message_type_of self.old) number) self.old lent.now) }
         ensures message_type { (v : Value) → message_type_of (left_if (number_declared (message_type_of self.old) number) self.old v) ≡ message_type_of self.old }
         ensures content { OnOk result ((v : Value) → content_of (left_if (number_declared (message_type_of self.old) number) self.old v) ≡ set_if (number_declared (message_type_of self.old) number) (value_of v) (content_of self.old)) }
         ensures refused { IfErr result (RefusesLoan (number_declared (message_type_of self.old) number)) }
@@ -73,8 +75,10 @@ impl DynamicMessage {
     ) -> Result<&mut Value, GetFieldError>
         ensures* writes_back { sem 𝓛 (LendsIfOk the_row value.the_row self.entry result (left_if (number_named (message_type_of self.old) name.now) self.old) self.old) }
         ensures value { IfOk result (λ lent. IsLentIf (number_named (message_type_of self.old) name.now) self.old lent.now) }
+        ensures part { IfOk result (λ lent. IfSome (number_named (message_type_of self.old) name.now) (λ n. IsPart self.old n lent.now)) }
         ensures inside { IfOk result (λ lent. LendsInside (number_named (message_type_of self.old) name.now) self.old lent.now) }
         ensures sets { OnOk result (LeavesSet (number_named (message_type_of self.old) name.now) self.old) }
+        ensures message { IfOk result (λ lent. LeavesMessage (number_named (message_type_of self.old) name.now) self.old lent.now) }
         ensures message_type { (v : Value) → message_type_of (left_if (number_named (message_type_of self.old) name.now) self.old v) ≡ message_type_of self.old }
         ensures content { OnOk result ((v : Value) → content_of (left_if (number_named (message_type_of self.old) name.now) self.old v) ≡ set_if (number_named (message_type_of self.old) name.now) (value_of v) (content_of self.old)) }
         ensures refused { IfErr result (RefusesLoan (number_named (message_type_of self.old) name.now)) }

@@ -3,13 +3,14 @@
 ghost use Rattle.std.specs.Prelude.{◌≡◌, ◌<◌, ◌↔◌, true, IsTrue, IfOk, Some, length};
 ghost use Rattle.prost_reflect_wire.specs.Content.{MessageValue, ScalarValue, empty};
 ghost use Rattle.prost_reflect_wire.specs.Schema.{field_valid};
-ghost use Rattle.prost_reflect_wire.specs.Typing.{element_valid, is_empty_value, kind_takes};
+ghost use Rattle.prost_reflect_wire.specs.Typing.{element_valid, fit_test, is_empty_value, kind_takes, value_passes};
 ghost use Rattle.prost_reflect_tables.specs.Linking.{is_repeated};
 ghost use Rattle.prost_reflect_tables.specs.Rows.{field_row};
 ghost use Rattle.prost_reflect_tables.specs.Shown.{schema_from, schema_field, own_type};
 ghost use Rattle.prost_reflect_pool.specs.Pools.{pool_rows};
 ghost use Rattle.prost_reflect_pool.specs.SharedPools.{pool_rows as shared_rows};
 ghost use Rattle.prost_reflect_dynamic.specs.Access.{takes};
+ghost use Rattle.prost_reflect_dynamic.specs.Edits.{IsWholeFor, IsWholeForExtension};
 ghost use Rattle.prost_reflect_dynamic.specs.ExtensionAccess.{extension_takes};
 ghost use Rattle.prost_reflect_dynamic.specs.Defaults.{row_default, IsEmptyOf, IsRowDefault, IsKindDefault, IsFieldDefault, IsExtensionDefault, field_default, extension_default};
 ghost use Rattle.prost_reflect_dynamic.specs.NamedDefaults.{default_named};
@@ -57,6 +58,8 @@ impl Value {
         ensures value { IfOk result (λ value. Some (value_of value) ≡ field_default field.now) }
         ensures default { IfOk result (IsFieldDefault field.now) }
         ensures valid { IfOk result (λ value. takes field.now value ≡ true) }
+        ensures fits { IfOk result (λ value. value_passes fit_test (value_of value) ≡ true) }
+        ensures whole { IfOk result (IsWholeFor field.now) }
     {
         field.default_value(alloc)
     }
@@ -73,6 +76,8 @@ impl Value {
         ensures value { IfOk result (λ value. Some (value_of value) ≡ extension_default extension.now) }
         ensures default { IfOk result (IsExtensionDefault extension.now) }
         ensures valid { IfOk result (λ value. extension_takes extension.now value ≡ true) }
+        ensures fits { IfOk result (λ value. value_passes fit_test (value_of value) ≡ true) }
+        ensures whole { IfOk result (IsWholeForExtension extension.now) }
     {
         extension.default_value(alloc)
     }

@@ -1,11 +1,12 @@
 //! Asking, reading, setting, clearing and taking fields by their names.
 
 ghost use Rattle.std.specs.Prelude.{◌≡◌, ◌<◌, IfOk, IfSome, IsOk, None, OnErr, OnOk, option_and_then, false, true};
+ghost use Rattle.std.specs.Cow.{cow_value};
 ghost use Rattle.prost_reflect_wire.specs.Schema.{passes};
 ghost use Rattle.prost_reflect_dynamic.specs.Access.{number_named, takes_at, has_at, had_at, ShowsFound};
 ghost use Rattle.prost_reflect_dynamic.specs.Contents.{cleared_if};
 ghost use Rattle.prost_reflect_dynamic.specs.Depths.{ShownInside};
-ghost use Rattle.prost_reflect_dynamic.specs.Edits.{Removes, Sets};
+ghost use Rattle.prost_reflect_dynamic.specs.Edits.{IsPart, Removes, Sets};
 ghost use Rattle.prost_reflect_dynamic.specs.View.{content_of, message_type_of};
 ghost use Rattle.prost_reflect_dynamic.specs.declared.message.DynamicMessage.{size-DynamicMessage};
 ghost use Rattle.prost_reflect_dynamic.specs.declared.value.Value.{size-Value};
@@ -39,6 +40,7 @@ impl DynamicMessage {
     ) -> Result<Option<Cow<'_, Value>>, AllocError>
         ensures shown { IfOk result (ShowsFound (number_named (message_type_of self.now) name.now) self.now) }
         ensures inside { IfOk result (λ found. IfSome found (ShownInside self.now)) }
+        ensures part { IfOk result (λ found. IfSome found (λ shown. IfSome (number_named (message_type_of self.now) name.now) (λ n. IsPart self.now n (cow_value shown)))) }
         ensures missing { number_named (message_type_of self.now) name.now ≡ None → IsOk result }
     {
         match self.number_named(name) {
@@ -63,6 +65,7 @@ impl DynamicMessage {
     pub fn take_field_by_name(&mut self, name: &str) -> Option<Value>
         ensures value { result ≡ option_and_then (λ n. had_at n self.old) (number_named (message_type_of self.old) name.now) }
         ensures inside { IfSome result (λ value. size-Value value < size-DynamicMessage self.old) }
+        ensures part { IfSome result (λ value. IfSome (number_named (message_type_of self.old) name.now) (λ n. IsPart self.old n value)) }
         ensures removes { Removes (cleared_if (number_named (message_type_of self.old) name.now)) self.old self.new }
         ensures gone { passes (number_named (message_type_of self.old) name.now) (λ n. has_at n (content_of self.new)) ≡ false }
         ensures unchanged { number_named (message_type_of self.old) name.now ≡ None → self.new ≡ self.old }

@@ -3,12 +3,14 @@
 ghost use Rattle.std.specs.Prelude.{◌≡◌, true, false, IfSome};
 ghost use Rattle.std.specs.Option.{option_copied};
 ghost use Rattle.std.specs.Iterator.{YieldsFirstBy};
+ghost use Rattle.prost_reflect_fields.specs.Items.{IsAscending};
 ghost use Rattle.prost_reflect_fields.specs.Known.{known_of, is_listed};
 ghost use Rattle.prost_reflect_dynamic.specs.ValueLists.{had_in, had_pairs, values_left, fields_left, extensions_left, fields_steps, extensions_steps};
-ghost use Rattle.prost_reflect_dynamic.specs.Access.{IsOwnField};
+ghost use Rattle.prost_reflect_dynamic.specs.Access.{IsOwnField, number_of};
 ghost use Rattle.prost_reflect_dynamic.specs.Depths.{GivesInside};
-ghost use Rattle.prost_reflect_dynamic.specs.ExtensionAccess.{IsOwnExtension};
-ghost use Rattle.prost_reflect_dynamic.specs.View.{message_type_of};
+ghost use Rattle.prost_reflect_dynamic.specs.Edits.{IsPart};
+ghost use Rattle.prost_reflect_dynamic.specs.ExtensionAccess.{IsOwnExtension, extension_number};
+ghost use Rattle.prost_reflect_dynamic.specs.View.{message_type_of, stored_in};
 ghost use Rattle.prost_reflect_dynamic.specs.Walks.{EachGiven};
 
 use crate::descriptor::{ExtensionDescriptor, FieldDescriptor};
@@ -158,6 +160,7 @@ impl DynamicMessage {
     pub fn fields(&self) -> Fields<'_>
         ensures left { fields_left result ≡ had_pairs false self.now }
         ensures inside { GivesInside fields_steps self.now result }
+        ensures parts { EachGiven fields_steps (λ pair. IsPart self.now (number_of pair.0) pair.1.now) result }
         ensures own { EachGiven fields_steps (λ pair. IsOwnField (message_type_of self.now) pair.0) result }
         ensures message_type { result.values.message_type.now ≡ message_type_of self.now }
     {
@@ -171,6 +174,7 @@ impl DynamicMessage {
     pub fn extensions(&self) -> Extensions<'_>
         ensures left { extensions_left result ≡ had_pairs true self.now }
         ensures inside { GivesInside extensions_steps self.now result }
+        ensures parts { EachGiven extensions_steps (λ pair. IsPart self.now (extension_number pair.0) pair.1.now) result }
         ensures own { EachGiven extensions_steps (λ pair. IsOwnExtension (message_type_of self.now) pair.0) result }
         ensures message_type { result.values.message_type.now ≡ message_type_of self.now }
     {
@@ -183,6 +187,7 @@ impl DynamicMessage {
     pub(super) fn had_values(&self) -> HadValues<'_>
         ensures of_fields { values_left false result ≡ had_pairs false self.now }
         ensures of_extensions { values_left true result ≡ had_pairs true self.now }
+        ensures ascending { IsAscending (stored_in self.now) }
         ensures message_type { result.message_type.now ≡ message_type_of self.now }
     {
         HadValues {

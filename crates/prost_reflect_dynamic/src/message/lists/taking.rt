@@ -1,14 +1,18 @@
 //! Taking all fields, or all extensions, of a message.
 
-ghost use Rattle.std.specs.Prelude.{◌≡◌, ◌≤◌, ◌+◌, false, true, [], length, map, zip, All, IfOk, OnOk, OnErr, vec_capacity, vec_len};
+ghost use Rattle.std.specs.Prelude.{◌≡◌, ◌<◌, ◌≤◌, ◌+◌, false, true, [], length, map, zip, All, IfOk, OnOk, OnErr, vec_capacity, vec_len};
 ghost use Rattle.std.specs.Vec.Iter.{into_iter_items};
+ghost use Rattle.prost_reflect_fields.specs.Items.{IsAscending};
 ghost use Rattle.prost_reflect_fields.specs.Known.{known_of, is_listed};
 ghost use Rattle.prost_reflect_dynamic.specs.Access.{IsOwnField, number_of};
 ghost use Rattle.prost_reflect_dynamic.specs.Contents.{values_taken};
-ghost use Rattle.prost_reflect_dynamic.specs.Edits.{Removes};
+ghost use Rattle.prost_reflect_dynamic.specs.Edits.{IsPart, Removes};
 ghost use Rattle.prost_reflect_dynamic.specs.ExtensionAccess.{IsOwnExtension, extension_number};
 ghost use Rattle.prost_reflect_dynamic.specs.ValueLists.{had_pairs, said};
-ghost use Rattle.prost_reflect_dynamic.specs.View.{message_type_of};
+ghost use Rattle.prost_reflect_dynamic.specs.View.{message_type_of, stored_in};
+ghost use Rattle.prost_reflect_dynamic.specs.Walks.{EachTaken};
+ghost use Rattle.prost_reflect_dynamic.specs.declared.message.DynamicMessage.{size-DynamicMessage};
+ghost use Rattle.prost_reflect_dynamic.specs.declared.value.Value.{size-Value};
 
 use crate::descriptor::{ExtensionDescriptor, FieldDescriptor};
 use crate::message::DynamicMessage;
@@ -58,6 +62,8 @@ impl DynamicMessage {
     pub fn take_fields(&mut self, alloc: Global) -> Result<TakenFields, AllocError>
         ensures pairs { IfOk result (λ taken. map (λ p. (number_of p.0, p.1)) (into_iter_items taken) ≡ had_pairs false self.old) }
         ensures own { IfOk result (λ taken. All (λ p. IsOwnField (message_type_of self.old) p.0) (into_iter_items taken)) }
+        ensures inside { IfOk result (EachTaken (λ p. size-Value p.1 < size-DynamicMessage self.old)) }
+        ensures parts { IfOk result (EachTaken (λ p. IsPart self.old (number_of p.0) p.1)) }
         ensures message_type { message_type_of self.new ≡ message_type_of self.old }
         ensures removes { OnOk result (Removes (values_taken false) self.old self.new) }
         ensures err { OnErr result (self.new ≡ self.old) }
@@ -76,6 +82,8 @@ impl DynamicMessage {
     pub fn take_extensions(&mut self, alloc: Global) -> Result<TakenExtensions, AllocError>
         ensures pairs { IfOk result (λ taken. map (λ p. (extension_number p.0, p.1)) (into_iter_items taken) ≡ had_pairs true self.old) }
         ensures own { IfOk result (λ taken. All (λ p. IsOwnExtension (message_type_of self.old) p.0) (into_iter_items taken)) }
+        ensures inside { IfOk result (EachTaken (λ p. size-Value p.1 < size-DynamicMessage self.old)) }
+        ensures parts { IfOk result (EachTaken (λ p. IsPart self.old (extension_number p.0) p.1)) }
         ensures message_type { message_type_of self.new ≡ message_type_of self.old }
         ensures removes { OnOk result (Removes (values_taken true) self.old self.new) }
         ensures err { OnErr result (self.new ≡ self.old) }
@@ -120,6 +128,7 @@ impl DynamicMessage {
         descriptors: Vec<D>,
     ) -> Result<Vec<(D, Value)>, AllocError>
         ensures pairs { IfOk result (λ pairs. pairs.items ≡ zip descriptors.items (map (λ p. p.1) (had_pairs of_extensions self.old))) }
+        ensures ascending { OnOk result (IsAscending (stored_in self.old)) }
         ensures message_type { message_type_of self.new ≡ message_type_of self.old }
         ensures removes { OnOk result (Removes (values_taken of_extensions) self.old self.new) }
         ensures err { OnErr result (self.new ≡ self.old) }
@@ -132,6 +141,7 @@ impl DynamicMessage {
     /// Takes the values of all fields, or those of all extensions, each with its number. If out of memory, nothing changes.
     fn take_listed(&mut self, of_extensions: bool) -> Result<Vec<(u32, Value)>, AllocError>
         ensures pairs { IfOk result (λ taken. said (known_of (message_type_of self.old)) taken.items ≡ had_pairs of_extensions self.old) }
+        ensures ascending { IsAscending (stored_in self.old) }
         ensures message_type { message_type_of self.new ≡ message_type_of self.old }
         ensures removes { OnOk result (Removes (values_taken of_extensions) self.old self.new) }
         ensures err { OnErr result (self.new ≡ self.old) }

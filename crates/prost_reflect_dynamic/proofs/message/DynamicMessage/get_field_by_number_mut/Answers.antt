@@ -1,5 +1,5 @@
 use Rattle.std.specs.Prelude.{◌≡◌}
-use Rattle.prost_reflect_dynamic.proofs.Common.{ℕ, cond, Option, Some, None, inl, ap, subst, sym, ◌∙◌, IsLentIf, left_if, number_declared, set_if, LendsInside, LeavesSet, value_of, content_of, message_type_of, Value}
+use Rattle.prost_reflect_dynamic.proofs.Common.{ℕ, cond, Option, Some, None, inl, ap, subst, sym, ◌∙◌, IsLentIf, left_if, number_declared, set_if, LendsInside, LeavesMessage, LeavesSet, value_of, content_of, message_type_of, Value}
 use Rattle.prost_reflect_dynamic.proofs.OwnFields.{number_known}
 use Rattle.prost_reflect_dynamic.proofs.message.DynamicMessage.get_field_by_number_mut.Goals as goal
 
@@ -13,8 +13,10 @@ returns-in-Ok c =
       record {
         writes_back = tt;
         value = subst (λ (o : Option ℕ). IsLentIf o c.args.self.now c.in-Ok.value.now) (sym is) c.in-Ok.ensures.value;
+        part = c.in-Ok.ensures.part;
         inside = subst (λ (o : Option ℕ). LendsInside o c.args.self.now c.in-Ok.value.now) (sym is) c.in-Ok.ensures.inside;
         sets = subst (λ (o : Option ℕ). LeavesSet o c.args.self.now) (sym is) c.in-Ok.ensures.sets;
+        message = subst (λ (o : Option ℕ). LeavesMessage o c.args.self.now c.in-Ok.value.now) (sym is) c.in-Ok.ensures.message;
         message_type = subst (λ (o : Option ℕ). (v : Value) → message_type_of (left_if o c.args.self.now v) ≡ message_type_of c.args.self.now) (sym is) c.in-Ok.ensures.message_type;
         content = subst (λ (o : Option ℕ). (v : Value) → content_of (left_if o c.args.self.now v) ≡ set_if o (value_of v) (content_of c.args.self.now)) (sym is) c.in-Ok.ensures.content;
         refused = tt;
