@@ -8,4 +8,5 @@ mod many_calls;
 mod messages;
 pub(crate) mod types;
 mod unknowns;
+mod ways;
 mod worked_values;

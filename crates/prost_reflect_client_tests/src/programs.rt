@@ -6,6 +6,7 @@ pub mod descriptors;
 pub mod editing;
 pub mod error;
 pub mod merging;
+pub mod moving;
 pub mod nesting;
 pub mod relaying;
 mod runs;

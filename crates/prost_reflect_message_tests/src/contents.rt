@@ -1,200 +1,146 @@
 //! What messages have, as texts.
 
+use crate::worked::lent;
 use prost_reflect::{
-    DynamicMessage, ExtensionDescriptor, MapKey, PresentNumber, UnknownField, UnknownFieldValue,
-    UnknownFields, Value,
+    DynamicMessage, MapKey, PresentNumber, UnknownField, UnknownFieldValue, Value,
 };
-use prost_reflect_samples::leaked;
-use std::alloc::{AllocError, Global};
-use std::collections::BTreeMap;
-use std::test::Fail;
+use std::alloc::Global;
+use std::process::Abort;
 
 /// What is present in a message, in ascending order of the numbers, a space behind each: `1=` and the value of a field,
 /// `[100]=` and that of an extension, and for each unknown field its number, `?` and its value.
 ///
 /// A list stands in square brackets, a map in round ones, a message in braces; a float is its bits, and bytes are an `x` and
 /// their digits.
-pub(crate) fn shown(alloc: Global, message: &DynamicMessage) -> Result<&'static str, Fail> {
-    let out = leaked(alloc, String::new(alloc))?;
-    let numbers = leaked(alloc, message.present_numbers(alloc)?)?;
-    write_present(out, message, numbers.as_slice())?;
-    Ok(out.as_str())
-}
-
-/// Whether this text is shown of the message.
-pub(crate) fn is_shown(alloc: Global, message: &DynamicMessage, text: &str) -> Result<bool, Fail> {
-    Ok(shown(alloc, message)? == text)
-}
-
-/// Writes what the message has at the numbers, which have to be all that are present.
-fn write_present(
-    out: &mut String,
-    message: &DynamicMessage,
-    numbers: &[PresentNumber],
-) -> Result<(), Fail> {
+pub(crate) fn shown(rt: &impl Abort, alloc: Global, message: &DynamicMessage) -> &'static str {
+    let out = lent(rt, alloc, String::new(alloc));
     let mut unknown = message.unknown_fields();
-    for present in numbers {
+    let numbers = lent(
+        rt,
+        alloc,
+        message.present_numbers(alloc).expect(rt, "memory"),
+    );
+    for present in numbers.as_slice() {
         match *present {
-            PresentNumber::Field(number) => write_field(out, message, number)?,
-            PresentNumber::Extension(number) => write_extension(out, message, number)?,
+            PresentNumber::Field(number) => write_field(rt, out, message, number),
+            PresentNumber::Extension(number) => write_extension(rt, out, message, number),
             PresentNumber::Unknown(number, count) => {
-                write_unknowns(out, &mut unknown, number, count)?
+                for _ in 0..count {
+                    let field = unknown.next().expect(rt, "an unknown field");
+                    assert!(rt; field.number() == number);
+                    write_unknown(rt, out, field);
+                }
             }
         }
     }
-    if unknown.next().is_some() {
-        return Err(Fail::from("more unknown fields than are present"));
-    }
-    Ok(())
+    assert!(rt; unknown.next().is_none());
+    out.as_str()
 }
 
-fn write_field(out: &mut String, message: &DynamicMessage, number: u32) -> Result<(), Fail> {
-    write!(out, "{number}=")?;
-    match message.get_field_by_number(*out.allocator(), number)? {
-        Some(value) => Ok(write_value(out, &value)?),
-        None => Err(Fail::from("no such field")),
-    }
+/// Writes the number and the value of a field.
+fn write_field(rt: &impl Abort, out: &mut String, message: &DynamicMessage, number: u32) {
+    write!(out, "{number}=").expect(rt, "memory");
+    let alloc = *out.allocator();
+    let found = message
+        .get_field_by_number(alloc, number)
+        .expect(rt, "memory");
+    write_value(rt, out, lent(rt, alloc, found.expect(rt, "a field")));
 }
 
-fn write_extension(out: &mut String, message: &DynamicMessage, number: u32) -> Result<(), Fail> {
-    write!(out, "[{number}]=")?;
-    let descriptor = leaked(*out.allocator(), message.descriptor()?)?;
-    match descriptor.get_extension(number)? {
-        Some(extension) => write_value_of(out, message, &extension),
-        None => Err(Fail::from("no such extension")),
-    }
+/// Writes the number and the value of an extension.
+fn write_extension(rt: &impl Abort, out: &mut String, message: &DynamicMessage, number: u32) {
+    write!(out, "[{number}]=").expect(rt, "memory");
+    let alloc = *out.allocator();
+    let descriptor = lent(rt, alloc, message.descriptor().expect(rt, "memory"));
+    let found = descriptor.get_extension(number).expect(rt, "memory");
+    let extension = lent(rt, alloc, found.expect(rt, "an extension"));
+    assert!(rt; message.owns_extension(extension));
+    let value = message.get_extension(alloc, extension).expect(rt, "memory");
+    write_value(rt, out, lent(rt, alloc, value));
 }
 
-/// Writes the value of an extension, which has to be one of the message's type.
-fn write_value_of(
-    out: &mut String,
-    message: &DynamicMessage,
-    extension: &ExtensionDescriptor,
-) -> Result<(), Fail> {
-    if !message.owns_extension(extension) {
-        return Err(Fail::from("an extension of another type"));
-    }
-    let value = message.get_extension(*out.allocator(), extension)?;
-    Ok(write_value(out, &value)?)
-}
-
-/// Writes so many of the next unknown fields.
-fn write_unknowns(
-    out: &mut String,
-    unknown: &mut UnknownFields<'_>,
-    number: u32,
-    count: usize,
-) -> Result<(), Fail> {
-    for _ in 0..count {
-        write_next(out, unknown, number)?;
-    }
-    Ok(())
-}
-
-/// Writes the next unknown field, which has to be of the number.
-fn write_next(out: &mut String, unknown: &mut UnknownFields<'_>, number: u32) -> Result<(), Fail> {
-    let field = unknown.next().ok_or("too few unknown fields")?;
-    if field.number() != number {
-        return Err(Fail::from("an unknown field of another number"));
-    }
-    write_unknown(out, field)?;
-    Ok(())
-}
-
-fn write_unknown(out: &mut String, field: &UnknownField) -> Result<(), AllocError> {
+/// Writes an unknown field.
+fn write_unknown(rt: &impl Abort, out: &mut String, field: &UnknownField) {
     let number = field.number();
-    write!(out, "{number}?")?;
-    match field.value() {
+    write!(out, "{number}?").expect(rt, "memory");
+    let written = match field.value() {
         UnknownFieldValue::Varint(value) => write!(out, "{value} "),
-        UnknownFieldValue::LengthDelimited(bytes) => write_digits(out, bytes.as_slice()),
+        UnknownFieldValue::LengthDelimited(bytes) => {
+            let digits = hex::encode(*out.allocator(), bytes.as_slice()).expect(rt, "memory");
+            write!(out, "x{digits} ")
+        }
         _ => out.push_str("? "),
-    }
-}
-
-fn write_digits(out: &mut String, bytes: &[u8]) -> Result<(), AllocError> {
-    let digits = hex::encode(*out.allocator(), bytes)?;
-    write!(out, "x{digits} ")
+    };
+    written.expect(rt, "memory");
 }
 
 /// Writes a value, a space behind it.
-fn write_value(out: &mut String, value: &Value) -> Result<(), AllocError> {
+fn write_value(rt: &impl Abort, out: &mut String, value: &Value) {
     if let Some(items) = value.as_list() {
-        write_list(out, items)
+        out.push('[').expect(rt, "memory");
+        for item in items {
+            write_item(rt, out, item);
+        }
+        out.push_str("] ").expect(rt, "memory");
     } else if let Some(pairs) = value.as_map() {
-        write_map(out, pairs)
+        out.push('(').expect(rt, "memory");
+        for (key, value) in pairs.iter() {
+            write_key(rt, out, key);
+            write_item(rt, out, value);
+        }
+        out.push_str(") ").expect(rt, "memory");
     } else {
-        write_item(out, value)
+        write_item(rt, out, value);
     }
 }
 
-fn write_list(out: &mut String, items: &[Value]) -> Result<(), AllocError> {
-    out.push('[')?;
-    for item in items {
-        write_item(out, item)?;
-    }
-    out.push_str("] ")
-}
-
-fn write_map(out: &mut String, pairs: &BTreeMap<MapKey, Value>) -> Result<(), AllocError> {
-    out.push('(')?;
-    for (key, value) in pairs.iter() {
-        write_key(out, key)?;
-        write_item(out, value)?;
-    }
-    out.push_str(") ")
-}
-
-fn write_key(out: &mut String, key: &MapKey) -> Result<(), AllocError> {
-    match key {
+fn write_key(rt: &impl Abort, out: &mut String, key: &MapKey) {
+    let written = match key {
         MapKey::I32(number) => write!(out, "{number}:"),
         MapKey::String(text) => write!(out, "{text}:"),
         _ => out.push('?'),
-    }
+    };
+    written.expect(rt, "memory");
 }
 
 /// Writes a value that is no list and no map, a space behind it.
-fn write_item(out: &mut String, value: &Value) -> Result<(), AllocError> {
-    match value.as_message() {
-        Some(message) => write_message(out, message),
-        None => write_scalar(out, value),
-    }
-}
-
-fn write_message(out: &mut String, message: &DynamicMessage) -> Result<(), AllocError> {
-    out.push('{')?;
+fn write_item(rt: &impl Abort, out: &mut String, value: &Value) {
+    let Some(message) = value.as_message() else {
+        write_scalar(rt, out, value);
+        return;
+    };
+    out.push('{').expect(rt, "memory");
     for item in message.fields() {
-        let (number, value) = {
-            let (field, value) = item?;
-            (field.number(), value)
-        };
-        write_member(out, number, value)?;
+        let (field, value) = item.expect(rt, "memory");
+        let number = field.number();
+        drop(field);
+        write_member(rt, out, number, value);
     }
     for field in message.unknown_fields() {
-        write_unknown(out, field)?;
+        write_unknown(rt, out, field);
     }
-    out.push_str("} ")
+    out.push_str("} ").expect(rt, "memory");
 }
 
-fn write_member(out: &mut String, number: u32, value: &Value) -> Result<(), AllocError> {
-    write!(out, "{number}=")?;
-    match value.as_list() {
-        Some(items) => write_scalars(out, items),
-        None => write_scalar(out, value),
-    }
-}
-
-fn write_scalars(out: &mut String, items: &[Value]) -> Result<(), AllocError> {
-    out.push('[')?;
+/// Writes the number and the value of a field that has no message, and is no map.
+fn write_member(rt: &impl Abort, out: &mut String, number: u32, value: &Value) {
+    write!(out, "{number}=").expect(rt, "memory");
+    let Some(items) = value.as_list() else {
+        write_scalar(rt, out, value);
+        return;
+    };
+    out.push('[').expect(rt, "memory");
     for item in items {
-        write_scalar(out, item)?;
+        write_scalar(rt, out, item);
     }
-    out.push_str("] ")
+    out.push_str("] ").expect(rt, "memory");
 }
 
-fn write_scalar(out: &mut String, value: &Value) -> Result<(), AllocError> {
-    match value {
+fn write_scalar(rt: &impl Abort, out: &mut String, value: &Value) {
+    let written = match value {
         Value::I32(number) | Value::EnumNumber(number) => write!(out, "{number} "),
         Value::F32(bits) => write!(out, "{bits} "),
         _ => out.push_str("? "),
-    }
+    };
+    written.expect(rt, "memory");
 }

@@ -1,59 +1,48 @@
 //! Values of each kind that pass through a type which knows them, and are set by it.
 
 use crate::relay::{relays_bytes, relays_digits};
-use crate::worked::{decoded, message_type};
+use crate::worked::{Set, decoded, lent, message_type};
 use prost_reflect::{MessageDescriptor, relay_with};
 use prost_reflect_samples::every::{Row, extensions, fields};
-use prost_reflect_samples::{leaked, sets};
-use std::alloc::{AllocError, Global};
-use std::test::Fail;
+use std::alloc::Global;
+use std::process::Abort;
 
 /// Whether the bytes are relayed as they are, and so are their digits.
-fn is_relayed(alloc: Global, every: &MessageDescriptor, bytes: &[u8]) -> Result<bool, Fail> {
-    let digits = leaked(alloc, hex::encode(alloc, bytes)?)?.as_str();
-    Ok(relays_bytes(alloc, every, bytes, bytes)? && relays_digits(alloc, every, digits, digits)?)
+fn is_relayed(rt: &impl Abort, alloc: Global, every: &MessageDescriptor, bytes: &[u8]) -> bool {
+    let digits = lent(rt, alloc, hex::encode(alloc, bytes).expect(rt, "memory")).as_str();
+    relays_bytes(rt, alloc, every, bytes, bytes) && relays_digits(rt, alloc, every, digits, digits)
 }
 
-/// The bytes of all rows.
-fn joined(alloc: Global, rows: &[Row]) -> Result<&'static [u8], AllocError> {
-    let bytes = leaked(alloc, Vec::new(alloc))?;
+/// Whether each row's bytes are relayed as they are, and so are those of all rows.
+fn are_relayed(rt: &impl Abort, alloc: Global, every: &MessageDescriptor, rows: &[Row]) -> bool {
+    let joined = lent(rt, alloc, Vec::new(alloc));
     for row in rows {
-        bytes.extend_from_slice(row.1)?;
+        assert!(rt; is_relayed(rt, alloc, every, row.1), "{}", row.0);
+        joined.extend_from_slice(row.1).expect(rt, "memory");
     }
-    Ok(bytes.as_slice())
-}
-
-#[test]
-fn each_kind_is_relayed(rt: HostRuntime) -> Result<(), Fail> {
-    let alloc = rt.alloc();
-    let every = message_type(alloc, sets::every(), "e.Every")?;
-    for rows in [fields(), extensions()] {
-        assert!(rt; is_relayed(alloc, every, joined(alloc, rows)?)?);
-        for row in rows {
-            assert!(rt; is_relayed(alloc, every, row.1)?, "{}", row.0);
-        }
-    }
-    Ok(())
+    is_relayed(rt, alloc, every, joined.as_slice())
 }
 
 /// Whether no bytes with the row's value set are written as the row's bytes, or the value is or
 /// holds a message.
-fn is_edited(alloc: Global, every: &MessageDescriptor, row: &Row) -> Result<bool, Fail> {
-    let message = decoded(alloc, every, row.1)?;
-    if row.0 % 20 == 10 || row.0 % 20 == 11 {
-        return Ok(true);
+fn is_edited(rt: &impl Abort, alloc: Global, every: &MessageDescriptor, row: &Row) -> bool {
+    let (number, bytes) = *row;
+    let message = decoded(rt, alloc, every, bytes);
+    if number % 20 == 10 || number % 20 == 11 {
+        return true;
     }
-    match message.take_field_by_number(row.0) {
-        Some(value) => Ok(relay_with(alloc, every, b"", &[row.0], value)?.as_slice() == row.1),
-        None => Ok(false),
-    }
+    let value = message.take_field_by_number(number).expect(rt, "a value");
+    let written = relay_with(alloc, every, b"", &[number], value).expect(rt, "an edit");
+    written.as_slice() == bytes
 }
 
 #[test]
-fn a_value_of_each_kind_is_set(rt: HostRuntime) -> Result<(), Fail> {
-    let every = message_type(rt.alloc(), sets::every(), "e.Every")?;
+fn each_kind_is_relayed_and_set(rt: HostRuntime) {
+    let alloc = rt.alloc();
+    let every = message_type(&rt, alloc, Set::Every, "e.Every");
+    assert!(rt; are_relayed(&rt, alloc, every, fields()));
+    assert!(rt; are_relayed(&rt, alloc, every, extensions()));
     for row in fields() {
-        assert!(rt; is_edited(rt.alloc(), every, row)?, "{}", row.0);
+        assert!(rt; is_edited(&rt, alloc, every, row), "{}", row.0);
     }
-    Ok(())
 }

@@ -1,148 +1,133 @@
 //! Bytes that are merged into messages.
 
-use crate::relay::newer;
-use crate::worked::{bytes_of, empty, is_written_as, message_type};
+use crate::worked::{Set, bytes_of, decoded, empty, is_written, message_type};
 use prost_reflect::{DecodeError, DynamicMessage};
-use prost_reflect_samples::{leaked, sets};
-use std::alloc::{AllocError, Global};
-use std::test::Fail;
+use std::alloc::Global;
+use std::process::Abort;
 
-/// A message type, the digits of what is merged into a new message of it and of what is merged behind that, and those of what
-/// the message is written as then.
-static MERGES: [(&str, &str, &str, &str); 8] = [
-    // messages join, and a scalar is its last record
-    ("package.MyMessage", "1a020805", "1a021042", "1a0408051042"),
-    ("package.MyMessage", "0805", "0800", ""),
-    ("package.MyMessage", "0805", "0807", "0807"),
-    ("package.MyMessage", "1005", "", "1005"),
-    // a list's elements stand behind those that are there, and an entry replaces one of its key
-    ("Foo", "08010802", "0a0103", "080108020803"),
-    ("P", "0a050a01611001", "0a050a01611002", "0a050a01611002"),
-    // the other member of the oneof goes, and unknown fields stay in their order
-    ("Q", "0805", "12021042", "12021042"),
+/// A message type, the digits of what is merged into a new message of it and of what is merged behind that, why the latter is
+/// refused, if it is, and the digits that mean what the message is then, and those of what it is written as.
+type Row = (
+    &'static str,
+    &'static str,
+    &'static str,
+    Option<DecodeError>,
+    &'static str,
+    &'static str,
+);
+
+static ROWS: [Row; 11] = [
+    // Pieces that are merged mean what they mean as one: messages join, and a scalar is its last record,
+    (
+        "package.MyMessage",
+        "1a020805",
+        "1a021042",
+        None,
+        "1a0208051a021042",
+        "1a0408051042",
+    ),
+    ("package.MyMessage", "0805", "0800", None, "08050800", ""),
+    (
+        "package.MyMessage",
+        "0805",
+        "0807",
+        None,
+        "08050807",
+        "0807",
+    ),
+    ("package.MyMessage", "1005", "", None, "1005", "1005"),
+    // a list's elements stand behind those that are there, and an entry replaces one of its key,
+    (
+        "Foo",
+        "08010802",
+        "0a0103",
+        None,
+        "080108020a0103",
+        "080108020803",
+    ),
+    (
+        "P",
+        "0a050a01611001",
+        "0a050a01611002",
+        None,
+        "0a050a016110010a050a01611002",
+        "0a050a01611002",
+    ),
+    // and the other member of the oneof goes, and unknown fields stay in their order.
+    ("Q", "0805", "12021042", None, "080512021042", "12021042"),
     (
         "package.MyMessage",
         "280130012802",
         "28033002",
+        None,
+        "28013001280228033002",
         "28012802280330013002",
     ),
-];
-
-/// Likewise, and why the second merge is refused.
-static REFUSALS: [(&str, &str, &str, DecodeError); 3] = [
+    // A merge that is refused changes nothing.
     (
         "package.MyMessage",
         "0805",
         "08011800",
-        DecodeError::WireType,
+        Some(DecodeError::WireType),
+        "0805",
+        "0805",
     ),
     (
         "package.MyMessage",
         "1a020805",
         "1a0210421a0310",
-        DecodeError::Truncated,
+        Some(DecodeError::Truncated),
+        "1a020805",
+        "1a020805",
     ),
-    ("package.MyMessage", "0805", "00", DecodeError::Key),
+    (
+        "package.MyMessage",
+        "0805",
+        "00",
+        Some(DecodeError::Key),
+        "0805",
+        "0805",
+    ),
 ];
 
 /// Merges the digits' bytes into the message, and answers why they are refused, if they are.
 fn merge_digits(
+    rt: &impl Abort,
     alloc: Global,
     message: &mut DynamicMessage,
     digits: &str,
-) -> Result<Option<DecodeError>, Fail> {
-    if !message.is_encodable() || !message.is_typed() {
-        return Err(Fail::from("not as the fields want it"));
-    }
-    Ok(message.merge(bytes_of(alloc, digits)?).err())
+) -> Option<DecodeError> {
+    let bytes = bytes_of(rt, alloc, digits);
+    assert!(rt; message.is_encodable());
+    assert!(rt; message.is_typed());
+    message.merge(bytes).err()
 }
 
-/// Merges some digits' bytes into the message, and then others, and answers whether the former are read, and the latter
-/// refused for this reason.
-fn merges(
-    alloc: Global,
-    message: &mut DynamicMessage,
-    front: &str,
-    behind: &str,
-    refusal: Option<DecodeError>,
-) -> Result<bool, Fail> {
-    Ok(
-        merge_digits(alloc, message, front)?.is_none()
-            && merge_digits(alloc, message, behind)? == refusal,
-    )
+/// Whether both merges answer as the row says, and the message is then as it says.
+fn becomes(rt: &impl Abort, alloc: Global, row: &Row) -> bool {
+    let (name, front, behind, refusal, meant, again) = *row;
+    let descriptor = message_type(rt, alloc, Set::Newer, name);
+    let message = empty(rt, alloc, descriptor);
+    merge_digits(rt, alloc, message, front).is_none()
+        && merge_digits(rt, alloc, message, behind) == refusal
+        && *message == *decoded(rt, alloc, descriptor, bytes_of(rt, alloc, meant))
+        && is_written(rt, alloc, message, bytes_of(rt, alloc, again))
 }
 
-/// Whether the message is the one that the digits' bytes mean.
-fn is_meant(
-    alloc: Global,
-    message: &DynamicMessage,
-    name: &str,
-    digits: &str,
-) -> Result<bool, Fail> {
-    let meant = newer(alloc, name, digits)?;
-    Ok(*message == *meant)
-}
-
-/// The digits behind one another, lent to the end of the run.
-fn joined(alloc: Global, front: &str, behind: &str) -> Result<&'static str, AllocError> {
-    let both = leaked(alloc, String::from_str(alloc, front)?)?;
-    both.push_str(behind)?;
-    Ok(both.as_str())
-}
-
-/// Whether a new message is the one that some digits' bytes mean, and written as others, once the bytes in front are merged
-/// into it and those behind are, or are refused for this reason.
-fn becomes(
-    alloc: Global,
-    name: &str,
-    pieces: (&str, &str, Option<DecodeError>),
-    meant: &str,
-    again: &str,
-) -> Result<bool, Fail> {
-    let (front, behind, refusal) = pieces;
-    let message = empty(alloc, message_type(alloc, sets::newer(), name)?)?;
-    Ok(
-        merges(alloc, message, front, behind, refusal)?
-            && is_meant(alloc, message, name, meant)?
-            && is_written_as(alloc, message, again)?,
-    )
-}
-
-/// Pieces that are merged mean what they mean as one.
 #[test]
-fn pieces_are_merged(rt: HostRuntime) -> Result<(), Fail> {
-    let alloc = rt.alloc();
-    for (name, front, behind, again) in &MERGES {
-        let both = joined(alloc, front, behind)?;
-        let pieces: (&str, &str, Option<DecodeError>) = (front, behind, None);
-        assert!(rt; becomes(alloc, name, pieces, both, again)?, "{front}");
+fn pieces_are_merged_or_change_nothing(rt: HostRuntime) {
+    for row in &ROWS {
+        assert!(rt; becomes(&rt, rt.alloc(), row), "{} {}", row.1, row.2);
     }
-    Ok(())
-}
-
-/// Whether the message has `foo` once a 5 is merged into it, and no more once a 0 is.
-fn loses_foo(alloc: Global, message: &mut DynamicMessage) -> Result<bool, Fail> {
-    Ok(
-        merge_digits(alloc, message, "0805")?.is_none()
-            && message.has_field_by_number(1)
-            && merge_digits(alloc, message, "0800")?.is_none()
-            && !message.has_field_by_number(1),
-    )
 }
 
 /// A 0 that is merged takes the place of a 5, and is no value of a field without presence.
 #[test]
-fn a_merged_default_is_not_had(rt: HostRuntime) -> Result<(), Fail> {
-    let message = newer(rt.alloc(), "package.MyMessage", "")?;
-    assert!(rt; loses_foo(rt.alloc(), message)?);
-    Ok(())
-}
-
-#[test]
-fn a_refused_merge_changes_nothing(rt: HostRuntime) -> Result<(), Fail> {
-    for (name, front, behind, fault) in &REFUSALS {
-        let pieces: (&str, &str, Option<DecodeError>) = (front, behind, Some(*fault));
-        assert!(rt; becomes(rt.alloc(), name, pieces, front, front)?, "{front}");
-    }
-    Ok(())
+fn a_merged_default_is_not_had(rt: HostRuntime) {
+    let descriptor = message_type(&rt, rt.alloc(), Set::Newer, "package.MyMessage");
+    let message = empty(&rt, rt.alloc(), descriptor);
+    assert!(rt; merge_digits(&rt, rt.alloc(), message, "0805").is_none());
+    assert!(rt; message.has_field_by_number(1));
+    assert!(rt; merge_digits(&rt, rt.alloc(), message, "0800").is_none());
+    assert!(rt; !message.has_field_by_number(1));
 }

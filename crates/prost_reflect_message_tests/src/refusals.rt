@@ -1,14 +1,21 @@
 //! Worked bytes that are refused, and a worked message that ends too early.
 
-use crate::worked::{bytes_of, fault, worked_type};
+use crate::worked::{Set, bytes_of, fault, lent, message_type};
 use prost_reflect::DecodeError;
-use prost_reflect_samples::leaked;
 use std::alloc::Global;
-use std::test::Fail;
+use std::process::Abort;
 
 /// A message type, the digits of bytes, why they are refused, how many bytes stand before the record at fault, and the numbers of
 /// the fields that it stands in.
-static REFUSED: [(&str, &str, DecodeError, usize, &[u32]); 27] = [
+type Row = (
+    &'static str,
+    &'static str,
+    DecodeError,
+    usize,
+    &'static [u32],
+);
+
+static REFUSED: [Row; 27] = [
     // A tenth byte above 1, and an eleventh byte.
     (
         "package.MyMessage",
@@ -81,38 +88,29 @@ static REFUSED: [(&str, &str, DecodeError, usize, &[u32]); 27] = [
 ];
 
 /// Whether the digits' bytes are refused as a message of the worked type, and the fault stands where it does.
-fn is_refused(
-    alloc: Global,
-    name: &str,
-    digits: &str,
-    error: DecodeError,
-    offset: usize,
-    path: &[u32],
-) -> Result<bool, Fail> {
-    let bytes = bytes_of(alloc, digits)?;
-    let descriptor = worked_type(alloc, name)?;
-    let refused = fault(alloc, descriptor, bytes)? == Some(error);
-    match descriptor.decode_fault(bytes) {
-        Some(found) => {
-            let stands = found.error() == error && found.offset() == offset;
-            Ok(refused && stands && found.path() == path)
-        }
-        None => Ok(false),
-    }
+fn is_refused(rt: &impl Abort, alloc: Global, row: &Row) -> bool {
+    let (name, digits, error, offset, path) = *row;
+    let descriptor = message_type(rt, alloc, Set::Worked, name);
+    let bytes = bytes_of(rt, alloc, digits);
+    let found = lent(
+        rt,
+        alloc,
+        descriptor.decode_fault(bytes).expect(rt, "a fault"),
+    );
+    fault(rt, alloc, descriptor, bytes) == Some(error)
+        && found.error() == error
+        && found.offset() == offset
+        && found.path() == path
 }
 
 #[test]
-fn worked_bytes_are_refused(rt: HostRuntime) -> Result<(), Fail> {
-    for (name, digits, error, offset, path) in &REFUSED {
-        assert!(rt;
-            is_refused(rt.alloc(), name, digits, *error, *offset, path)?,
-            "{digits}"
-        );
+fn worked_bytes_are_refused(rt: HostRuntime) {
+    for row in &REFUSED {
+        assert!(rt; is_refused(&rt, rt.alloc(), row), "{}", row.1);
     }
-    Ok(())
 }
 
-/// Bytes that are refused, and the text of their fault.
+/// Bytes that are refused, and the text of their fault, which names the path, where there is one, and the offset.
 static SHOWN: [(&[u8], &str); 2] = [
     (b"\x0e", "at 0: a key has no field number or no wire type"),
     (
@@ -121,27 +119,29 @@ static SHOWN: [(&[u8], &str); 2] = [
     ),
 ];
 
-/// The text of a fault names the path, where there is one, and the offset.
+/// Whether the fault of the bytes is shown as the text.
+fn is_shown(rt: &impl Abort, alloc: Global, bytes: &[u8], text: &str) -> bool {
+    let descriptor = message_type(rt, alloc, Set::Worked, "package.MyMessage");
+    let found = descriptor.decode_fault(bytes).expect(rt, "a fault");
+    let shown = format!(in alloc; "{found}").expect(rt, "memory");
+    shown.as_str() == text
+}
+
 #[test]
-fn faults_are_shown(rt: HostRuntime) -> Result<(), Fail> {
-    let alloc = rt.alloc();
-    let descriptor = worked_type(alloc, "package.MyMessage")?;
+fn faults_are_shown(rt: HostRuntime) {
     for (bytes, text) in &SHOWN {
-        let found = leaked(alloc, descriptor.decode_fault(bytes).ok_or("a message")?)?;
-        assert!(rt; format!(in alloc; "{found}")?.as_str() == *text);
+        assert!(rt; is_shown(&rt, rt.alloc(), bytes, text), "{text}");
     }
-    Ok(())
 }
 
 /// A part that ends between records is read.
 #[test]
-fn a_message_ends_between_its_records(rt: HostRuntime) -> Result<(), Fail> {
+fn a_message_ends_between_its_records(rt: HostRuntime) {
     let bytes = [0x08, 0x96, 0x01, 0x1a, 0x02, 0x10, 0x42];
-    let descriptor = worked_type(rt.alloc(), "package.MyMessage")?;
+    let descriptor = message_type(&rt, rt.alloc(), Set::Worked, "package.MyMessage");
     for len in 0..7 {
-        let found = fault(rt.alloc(), descriptor, &bytes[..len])?;
+        let found = fault(&rt, rt.alloc(), descriptor, &bytes[..len]);
         let is_cut = len != 0 && len != 3;
         assert!(rt; found == is_cut.then_some(DecodeError::Truncated), "{len}");
     }
-    Ok(())
 }

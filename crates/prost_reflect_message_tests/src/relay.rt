@@ -1,23 +1,26 @@
 //! What older message types relay, and what newer ones read of it.
 
-use crate::contents::is_shown;
+use crate::contents::shown;
 use crate::levels::in_messages;
-use crate::worked::{bytes_of, decoded, message_type, passes};
+use crate::worked::{Set, bytes_of, decoded, lent, message_type, passes};
 use prost_reflect::{
-    DecodeError, DynamicMessage, MessageDescriptor, RelayError, RelayHexError, RelayWithError,
-    Value, relay, relay_hex, relay_with,
+    DecodeError, MessageDescriptor, RelayError, RelayHexError, RelayWithError, Value, relay,
+    relay_hex, relay_with,
 };
-use prost_reflect_samples::sets;
 use std::alloc::Global;
-use std::test::Fail;
-
-/// `message R { repeated R r = 1; }`, of proto2.
-static REPEATED: &[u8] =
-    b"\x0a\x17\x0a\x01r\"\x12\x0a\x01R\x12\x0d\x0a\x01r\x18\x01 \x03(\x0b2\x02.R";
+use std::process::Abort;
 
 /// A message type, the digits of bytes, those of what its older form relays them as, and what its newer form shows of both.
 /// The older forms of `Q` and `C` are no reductions: members of a oneof are missing, and a number of a closed enum.
-static ROWS: [(&str, &str, &str, &str, &str); 6] = [
+type Row = (
+    &'static str,
+    &'static str,
+    &'static str,
+    &'static str,
+    &'static str,
+);
+
+static ROWS: [Row; 6] = [
     (
         "package.MyMessage",
         "1a0410420805",
@@ -44,6 +47,61 @@ static ROWS: [(&str, &str, &str, &str, &str); 6] = [
     ("C", "08010800", "08000801", "1=0 ", "1=1 "),
 ];
 
+/// Whether the newer form of a type shows this text of the digits' bytes.
+fn is_shown_by_newer(rt: &impl Abort, alloc: Global, name: &str, digits: &str, text: &str) -> bool {
+    let newer = message_type(rt, alloc, Set::Newer, name);
+    shown(
+        rt,
+        alloc,
+        decoded(rt, alloc, newer, bytes_of(rt, alloc, digits)),
+    ) == text
+}
+
+/// Whether the bytes are relayed as others by an older type.
+pub(crate) fn relays_bytes(
+    rt: &impl Abort,
+    alloc: Global,
+    older: &MessageDescriptor,
+    bytes: &[u8],
+    again: &[u8],
+) -> bool {
+    let relayed = relay(alloc, older, bytes).expect(rt, "a message");
+    relayed.as_slice() == again
+}
+
+/// Whether the digits are relayed as others by an older type.
+pub(crate) fn relays_digits(
+    rt: &impl Abort,
+    alloc: Global,
+    older: &MessageDescriptor,
+    digits: &str,
+    again: &str,
+) -> bool {
+    let relayed = relay_hex(alloc, older, digits).expect(rt, "a message");
+    relayed.as_str() == again
+}
+
+/// Whether the digits, and the bytes that they spell, are relayed as the row says by the older type, as they are read and written
+/// by it; and the newer type shows what the row says.
+fn is_relayed(rt: &impl Abort, alloc: Global, row: &Row) -> bool {
+    let (name, digits, again, first, second) = *row;
+    let older = message_type(rt, alloc, Set::Older, name);
+    let bytes = bytes_of(rt, alloc, digits);
+    let expected = bytes_of(rt, alloc, again);
+    relays_digits(rt, alloc, older, digits, again)
+        && relays_bytes(rt, alloc, older, bytes, expected)
+        && passes(rt, alloc, older, bytes, expected)
+        && is_shown_by_newer(rt, alloc, name, digits, first)
+        && is_shown_by_newer(rt, alloc, name, again, second)
+}
+
+#[test]
+fn messages_pass_through_older_types(rt: HostRuntime) {
+    for row in &ROWS {
+        assert!(rt; is_relayed(&rt, rt.alloc(), row), "{}", row.1);
+    }
+}
+
 /// Texts that `MyMessage` in its older form does not relay.
 static REFUSED: [(&str, RelayHexError); 3] = [
     ("1a0", RelayHexError::Hex),
@@ -54,86 +112,13 @@ static REFUSED: [(&str, RelayHexError); 3] = [
     ),
 ];
 
-/// The message of a type's newer form that the digits' bytes mean, lent to the end of the run.
-pub(crate) fn newer(
-    alloc: Global,
-    name: &str,
-    digits: &str,
-) -> Result<&'static mut DynamicMessage, Fail> {
-    let newer = message_type(alloc, sets::newer(), name)?;
-    decoded(alloc, newer, bytes_of(alloc, digits)?)
-}
-
-/// Whether the newer form of a type shows this text of the digits' bytes.
-fn is_shown_by_newer(alloc: Global, name: &str, digits: &str, text: &str) -> Result<bool, Fail> {
-    is_shown(alloc, newer(alloc, name, digits)?, text)
-}
-
-/// Whether the bytes are relayed as others by an older type.
-pub(crate) fn relays_bytes(
-    alloc: Global,
-    older: &MessageDescriptor,
-    bytes: &[u8],
-    again: &[u8],
-) -> Result<bool, Fail> {
-    Ok(relay(alloc, older, bytes)?.as_slice() == again)
-}
-
-/// Whether the digits are relayed as others by an older type.
-pub(crate) fn relays_digits(
-    alloc: Global,
-    older: &MessageDescriptor,
-    digits: &str,
-    again: &str,
-) -> Result<bool, Fail> {
-    Ok(relay_hex(alloc, older, digits)?.as_str() == again)
-}
-
-/// Whether the digits, and the bytes that they spell, are relayed as others by an older type, as they are read and written
-/// by it.
-fn relays(
-    alloc: Global,
-    older: &MessageDescriptor,
-    digits: &str,
-    again: &str,
-) -> Result<bool, Fail> {
-    let bytes = bytes_of(alloc, digits)?;
-    let expected = bytes_of(alloc, again)?;
-    Ok(
-        relays_digits(alloc, older, digits, again)?
-            && relays_bytes(alloc, older, bytes, expected)?
-            && passes(alloc, older, bytes, expected)?,
-    )
-}
-
 #[test]
-fn messages_pass_through_older_types(rt: HostRuntime) -> Result<(), Fail> {
-    let alloc = rt.alloc();
-    for (name, digits, again, _, _) in &ROWS {
-        let older = message_type(alloc, sets::older(), name)?;
-        assert!(rt; relays(alloc, older, digits, again)?, "{digits}");
+fn what_is_not_relayed_is_named(rt: HostRuntime) {
+    let older = message_type(&rt, rt.alloc(), Set::Older, "package.MyMessage");
+    for (digits, refusal) in &REFUSED {
+        let found = relay_hex(rt.alloc(), older, digits).err();
+        assert!(rt; found == Some(*refusal), "{digits}");
     }
-    Ok(())
-}
-
-#[test]
-fn newer_types_read_what_is_relayed(rt: HostRuntime) -> Result<(), Fail> {
-    for (name, digits, again, first, second) in &ROWS {
-        assert!(rt; is_shown_by_newer(rt.alloc(), name, digits, first)?);
-        assert!(rt; is_shown_by_newer(rt.alloc(), name, again, second)?);
-    }
-    Ok(())
-}
-
-#[test]
-fn what_is_not_relayed_is_named(rt: HostRuntime) -> Result<(), Fail> {
-    let alloc = rt.alloc();
-    let older = message_type(alloc, sets::older(), "package.MyMessage")?;
-    for (digits, refusal) in REFUSED {
-        let found = relay_hex(alloc, older, digits).err();
-        assert!(rt; found == Some(refusal), "{digits}");
-    }
-    Ok(())
 }
 
 /// A value to set.
@@ -144,222 +129,209 @@ enum Setting {
     EmptyList,
 }
 
-fn value_of(alloc: Global, setting: Setting) -> Value {
-    match setting {
+/// What is written of the bytes with the value set at the path, or why it is not set.
+fn edited(
+    alloc: Global,
+    older: &MessageDescriptor,
+    bytes: &[u8],
+    path: &[u32],
+    setting: Setting,
+) -> Result<Vec<u8>, RelayWithError> {
+    let value = match setting {
         Setting::I32(number) => Value::I32(number),
         Setting::EnumNumber(number) => Value::EnumNumber(number),
         Setting::EmptyList => Value::List(Vec::new(alloc)),
-    }
+    };
+    relay_with(alloc, older, bytes, path, value)
 }
 
-/// Whether the bytes with a value set at a path are written as others.
-fn edits(
-    alloc: Global,
-    older: &MessageDescriptor,
-    bytes: &[u8],
-    path: &[u32],
-    setting: Setting,
-    again: &[u8],
-) -> Result<bool, Fail> {
-    let written = relay_with(alloc, older, bytes, path, value_of(alloc, setting))?;
-    Ok(written.as_slice() == again)
-}
-
-/// Why a value is not set at a path in the bytes, if it is not.
-fn refusal(
-    alloc: Global,
-    older: &MessageDescriptor,
-    bytes: &[u8],
-    path: &[u32],
-    setting: Setting,
-) -> Option<RelayWithError> {
-    relay_with(alloc, older, bytes, path, value_of(alloc, setting)).err()
-}
-
-/// A message type, the digits of bytes, a path, the value that is set there, and the digits of what is written then.
+/// A descriptor set, a message type, the digits of bytes, a path, the value that is set there, and the digits of what is written
+/// then, or why it is not set.
 type Edit = (
+    Set,
     &'static str,
     &'static str,
     &'static [u32],
     Setting,
-    &'static str,
+    Result<&'static str, RelayWithError>,
 );
 
-/// Edits through the older types.
-static OLDER_EDITS: [Edit; 3] = [
+static EDITS: [Edit; 15] = [
     (
+        Set::Older,
         "package.MyMessage",
         "08051042",
         &[2],
         Setting::I32(7),
-        "08051007",
+        Ok("08051007"),
     ),
     (
+        Set::Older,
         "package.MyMessage",
         "1a0408051042",
         &[3, 2],
         Setting::I32(7),
-        "1a0408051007",
+        Ok("1a0408051007"),
     ),
     (
+        Set::Older,
         "package.MyMessage",
         "",
         &[3, 3, 2],
         Setting::I32(0),
-        "1a041a021000",
+        Ok("1a041a021000"),
     ),
-];
-
-/// Edits through the newer types; the second one through the worked type too.
-static NEWER_EDITS: [Edit; 2] = [
-    ("Q", "12021042", &[1], Setting::I32(0), "0800"),
-    ("C", "0807", &[1], Setting::EnumNumber(1), "08010807"),
-];
-
-/// An edit that empties a list of groups.
-static GROUP_EDIT: Edit = ("G", "0b08010c", &[1], Setting::EmptyList, "");
-
-/// An edit that empties a list of messages, and keeps what is unknown.
-static REPEATED_EDIT: Edit = ("R", "0a001003", &[1], Setting::EmptyList, "1003");
-
-/// Whether the bytes of the digits are edited as the row says by the type in the descriptor set.
-fn is_edited(alloc: Global, set: &[u8], edit: &Edit) -> Result<bool, Fail> {
-    let (name, digits, path, setting, again) = *edit;
-    let older = message_type(alloc, set, name)?;
-    let bytes = bytes_of(alloc, digits)?;
-    edits(alloc, older, bytes, path, setting, bytes_of(alloc, again)?)
-}
-
-#[test]
-fn values_are_set_through_older_types(rt: HostRuntime) -> Result<(), Fail> {
-    let alloc = rt.alloc();
-    for edit in &OLDER_EDITS {
-        assert!(rt; is_edited(alloc, sets::older(), edit)?);
-    }
-    assert!(rt; is_shown_by_newer(alloc, "package.MyMessage", "08051007", "1=5 2=7 ")?);
-    Ok(())
-}
-
-#[test]
-fn values_take_the_place_of_others(rt: HostRuntime) -> Result<(), Fail> {
-    let alloc = rt.alloc();
-    let rows: [(&[u8], &Edit); 5] = [
-        (sets::newer(), &NEWER_EDITS[0]),
-        (sets::newer(), &NEWER_EDITS[1]),
-        (sets::groups(), &GROUP_EDIT),
-        (REPEATED, &REPEATED_EDIT),
-        (sets::worked(), &NEWER_EDITS[1]),
-    ];
-    for (set, edit) in rows {
-        assert!(rt; is_edited(alloc, set, edit)?);
-    }
-    Ok(())
-}
-
-/// Whether the newer form of `MyMessage` reads the bytes, and has a message in it.
-fn newer_has_nested(alloc: Global, bytes: &[u8]) -> Result<bool, Fail> {
-    let newer = message_type(alloc, sets::newer(), "package.MyMessage")?;
-    Ok(decoded(alloc, newer, bytes)?.has_field_by_number(3))
-}
-
-#[test]
-fn a_path_goes_down_a_hundred_levels(rt: HostRuntime) -> Result<(), Fail> {
-    let alloc = rt.alloc();
-    let older = message_type(alloc, sets::older(), "package.MyMessage")?;
-    let mut path = [3; 102];
-    path[101] = 2;
-    let expected = in_messages(alloc, 100, "1000")?;
-    let zero = Setting::I32(0);
-    assert!(rt; edits(alloc, older, &[], &path[1..], zero, expected)?);
-    assert!(rt; newer_has_nested(alloc, expected)?);
-    let refused = refusal(alloc, older, &[], &path, zero);
-    assert!(rt; refused == Some(RelayWithError::NotFound));
-    Ok(())
-}
-
-/// A newer message type, the digits of bytes, a path, a value, and why it is not set there.
-static NOT_SET: [(&str, &str, &[u32], Setting, RelayWithError); 6] = [
+    // Values take the place of others.
     (
+        Set::Newer,
+        "Q",
+        "12021042",
+        &[1],
+        Setting::I32(0),
+        Ok("0800"),
+    ),
+    (
+        Set::Newer,
+        "C",
+        "0807",
+        &[1],
+        Setting::EnumNumber(1),
+        Ok("08010807"),
+    ),
+    (
+        Set::Worked,
+        "C",
+        "0807",
+        &[1],
+        Setting::EnumNumber(1),
+        Ok("08010807"),
+    ),
+    // A list of groups is emptied, and one of messages, beside which what is unknown is kept.
+    (
+        Set::Groups,
+        "G",
+        "0b08010c",
+        &[1],
+        Setting::EmptyList,
+        Ok(""),
+    ),
+    (
+        Set::Repeated,
+        "R",
+        "0a001003",
+        &[1],
+        Setting::EmptyList,
+        Ok("1003"),
+    ),
+    // No path, a number of no field, a path that goes on through a scalar, and an extension.
+    (
+        Set::Newer,
         "package.MyMessage",
         "",
         &[],
         Setting::I32(0),
-        RelayWithError::NotFound,
+        Err(RelayWithError::NotFound),
     ),
     (
+        Set::Newer,
         "package.MyMessage",
         "08",
         &[42],
         Setting::I32(0),
-        RelayWithError::NotFound,
+        Err(RelayWithError::NotFound),
     ),
     (
+        Set::Newer,
         "package.MyMessage",
         "08",
         &[1, 1],
         Setting::I32(0),
-        RelayWithError::NotFound,
+        Err(RelayWithError::NotFound),
     ),
     (
+        Set::Newer,
         "Foo",
         "",
         &[100],
         Setting::EmptyList,
-        RelayWithError::NotFound,
+        Err(RelayWithError::NotFound),
     ),
     (
+        Set::Newer,
         "C",
         "0807",
         &[1],
         Setting::EnumNumber(7),
-        RelayWithError::InvalidType,
+        Err(RelayWithError::InvalidType),
     ),
     (
+        Set::Worked,
+        "C",
+        "0807",
+        &[1],
+        Setting::EnumNumber(7),
+        Err(RelayWithError::InvalidType),
+    ),
+    (
+        Set::Newer,
         "package.MyMessage",
         "08",
         &[1],
         Setting::I32(5),
-        RelayWithError::Decode(DecodeError::Truncated),
+        Err(RelayWithError::Decode(DecodeError::Truncated)),
     ),
 ];
 
-/// Why a value is not set at a path in the digits' bytes by the type of the name in the descriptor set, if it is not.
-fn refusal_by(
-    alloc: Global,
-    set: &[u8],
-    name: &str,
-    digits: &str,
-    path: &[u32],
-    setting: Setting,
-) -> Result<Option<RelayWithError>, Fail> {
-    let older = message_type(alloc, set, name)?;
-    let bytes = bytes_of(alloc, digits)?;
-    Ok(refusal(alloc, older, bytes, path, setting))
+/// Whether the bytes are edited as the row says, or refused.
+fn is_edited(rt: &impl Abort, alloc: Global, edit: &Edit) -> bool {
+    let (set, name, digits, path, setting, answer) = *edit;
+    let older = message_type(rt, alloc, set, name);
+    let bytes = bytes_of(rt, alloc, digits);
+    match edited(alloc, older, bytes, path, setting) {
+        Ok(written) => match answer {
+            Ok(again) => written.as_slice() == bytes_of(rt, alloc, again),
+            Err(_) => false,
+        },
+        Err(refusal) => answer.err() == Some(refusal),
+    }
 }
 
 #[test]
-fn what_is_not_set_is_named(rt: HostRuntime) -> Result<(), Fail> {
-    for (name, digits, path, setting, refused) in &NOT_SET {
-        let found = refusal_by(rt.alloc(), sets::newer(), name, digits, path, *setting)?;
-        assert!(rt; found == Some(*refused), "{name} {digits}");
+fn values_are_set_through_types(rt: HostRuntime) {
+    for (place, edit) in EDITS.iter().enumerate() {
+        assert!(rt; is_edited(&rt, rt.alloc(), edit), "{place}");
     }
-    let seven = Setting::EnumNumber(7);
-    let found = refusal_by(rt.alloc(), sets::worked(), "C", "0807", &[1], seven)?;
-    assert!(rt; found == Some(RelayWithError::InvalidType));
-    Ok(())
+    assert!(rt; is_shown_by_newer(&rt, rt.alloc(), "package.MyMessage", "08051007", "1=5 2=7 "));
+}
+
+#[test]
+fn a_path_goes_down_a_hundred_levels(rt: HostRuntime) {
+    let alloc = rt.alloc();
+    let older = message_type(&rt, alloc, Set::Older, "package.MyMessage");
+    let newer = message_type(&rt, alloc, Set::Newer, "package.MyMessage");
+    let mut path = [3; 102];
+    path[101] = 2;
+    let expected = in_messages(&rt, alloc, 100, "1000");
+    let written = edited(alloc, older, &[], &path[1..], Setting::I32(0));
+    let written = lent(&rt, alloc, written.expect(&rt, "an edit"));
+    assert!(rt; written.as_slice() == expected);
+    assert!(rt; decoded(&rt, alloc, newer, expected).has_field_by_number(3));
+    let refused = edited(alloc, older, &[], &path, Setting::I32(0)).err();
+    assert!(rt; refused == Some(RelayWithError::NotFound));
 }
 
 /// Why an empty message is not set at the field 3 in the bytes, if it is not.
-fn message_refusal(alloc: Global, bytes: &[u8]) -> Result<Option<RelayWithError>, Fail> {
-    let descriptor = message_type(alloc, sets::newer(), "package.MyMessage")?;
-    let message = newer(alloc, "package.MyMessage", "")?.clone()?;
-    Ok(relay_with(alloc, descriptor, bytes, &[3], Value::Message(message)).err())
+fn message_refusal(rt: &impl Abort, alloc: Global, bytes: &[u8]) -> Option<RelayWithError> {
+    let descriptor = message_type(rt, alloc, Set::Newer, "package.MyMessage");
+    let message = decoded(rt, alloc, descriptor, b"")
+        .clone()
+        .expect(rt, "memory");
+    relay_with(alloc, descriptor, bytes, &[3], Value::Message(message)).err()
 }
 
 #[test]
-fn messages_are_not_set(rt: HostRuntime) -> Result<(), Fail> {
+fn messages_are_not_set(rt: HostRuntime) {
     let refused = Some(RelayWithError::HoldsMessage);
-    assert!(rt; message_refusal(rt.alloc(), b"")? == refused);
-    assert!(rt; message_refusal(rt.alloc(), b"\x08")? == refused);
-    Ok(())
+    assert!(rt; message_refusal(&rt, rt.alloc(), b"") == refused);
+    assert!(rt; message_refusal(&rt, rt.alloc(), b"\x08") == refused);
 }

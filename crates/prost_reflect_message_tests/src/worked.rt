@@ -1,67 +1,93 @@
 //! Worked messages of each form: what is written of them again, and what is present in them.
+//!
+//! What is missing, as memory or a name, ends the test at once, so no function here has a second way out; and what they hand
+//! out is lent to the end of the run, so their callers have nothing to drop.
 
-use crate::contents::{is_shown, shown};
+use crate::contents::shown;
 use prost_reflect::{DecodeError, DescriptorPool, DynamicMessage, MessageDescriptor, builtin_pool};
 use prost_reflect_samples::{leaked, sets};
 use std::alloc::Global;
-use std::test::Fail;
+use std::process::Abort;
 
-/// `b.X` of a pool without the extension.
-pub(crate) static WITHOUT_EXTENSION: &[u8] =
-    b"\x0a\x1c\x0a\x0bolder.proto\x12\x01b\"\x0a\x0a\x01X*\x05\x08d\x10\xc8\x01";
+/// A descriptor set.
+#[derive(Clone, Copy)]
+pub(crate) enum Set {
+    Every,
+    Groups,
+    Newer,
+    Older,
+    /// `message R { repeated R r = 1; }`, of proto2.
+    Repeated,
+    /// `b.X` without the extension.
+    WithoutExtension,
+    Worked,
+}
 
-/// The type of the name in the pool, lent to the end of the run.
-pub(crate) fn type_in(
-    alloc: Global,
-    pool: &DescriptorPool,
-    name: &str,
-) -> Result<&'static MessageDescriptor, Fail> {
-    match pool.get_message_by_name(name)? {
-        Some(found) => Ok(leaked(alloc, found)?),
-        None => Err(Fail::from("no such message type")),
+/// The value, lent to the end of the run.
+pub(crate) fn lent<'a, T: Drop + 'a>(rt: &impl Abort, alloc: Global, value: T) -> &'a mut T {
+    leaked(alloc, value).expect(rt, "memory")
+}
+
+/// The bytes of a descriptor set.
+fn set_of(set: Set) -> &'static [u8] {
+    match set {
+        Set::Every => sets::every(),
+        Set::Groups => sets::groups(),
+        Set::Newer => sets::newer(),
+        Set::Older => sets::older(),
+        Set::Repeated => {
+            b"\x0a\x17\x0a\x01r\"\x12\x0a\x01R\x12\x0d\x0a\x01r\x18\x01 \x03(\x0b2\x02.R"
+        }
+        Set::WithoutExtension => {
+            b"\x0a\x1c\x0a\x0bolder.proto\x12\x01b\"\x0a\x0a\x01X*\x05\x08d\x10\xc8\x01"
+        }
+        Set::Worked => sets::worked(),
     }
 }
 
-/// The type of the name in the descriptor set.
+/// The type of the name in the descriptor set, or the built-in one.
 pub(crate) fn message_type(
+    rt: &impl Abort,
     alloc: Global,
-    set: &[u8],
+    set: Set,
     name: &str,
-) -> Result<&'static MessageDescriptor, Fail> {
-    let pool = leaked(alloc, DescriptorPool::decode(alloc, set)?)?;
-    type_in(alloc, pool, name)
-}
-
-/// The type of the name in `worked`, or the built-in one.
-pub(crate) fn worked_type(alloc: Global, name: &str) -> Result<&'static MessageDescriptor, Fail> {
-    if name.starts_with("builtin.") {
-        type_in(alloc, leaked(alloc, builtin_pool(alloc)?)?, name)
+) -> &'static MessageDescriptor {
+    let pool = if name.starts_with("builtin.") {
+        builtin_pool(alloc).expect(rt, "memory")
     } else {
-        message_type(alloc, sets::worked(), name)
-    }
+        DescriptorPool::decode(alloc, set_of(set)).expect(rt, "a pool")
+    };
+    let found = lent(rt, alloc, pool)
+        .get_message_by_name(name)
+        .expect(rt, "memory");
+    lent(rt, alloc, found.expect(rt, "a message type"))
 }
 
-/// The bytes that the digits spell, lent to the end of the run.
-pub(crate) fn bytes_of(alloc: Global, digits: &str) -> Result<&'static [u8], Fail> {
-    Ok(leaked(alloc, hex::decode(alloc, digits)?)?.as_slice())
+/// The bytes that the digits spell.
+pub(crate) fn bytes_of(rt: &impl Abort, alloc: Global, digits: &str) -> &'static [u8] {
+    lent(rt, alloc, hex::decode(alloc, digits).expect(rt, "digits")).as_slice()
 }
 
-/// The message of the type that the bytes mean, lent to the end of the run.
+/// The message of the type that the bytes mean.
 pub(crate) fn decoded(
+    rt: &impl Abort,
     alloc: Global,
     descriptor: &MessageDescriptor,
     bytes: &[u8],
-) -> Result<&'static mut DynamicMessage, Fail> {
-    let message = DynamicMessage::decode(alloc, descriptor.clone()?, bytes)?;
-    Ok(leaked(alloc, message)?)
+) -> &'static mut DynamicMessage {
+    let descriptor = descriptor.clone().expect(rt, "memory");
+    let message = DynamicMessage::decode(alloc, descriptor, bytes).expect(rt, "a message");
+    lent(rt, alloc, message)
 }
 
-/// An empty message of the type, lent to the end of the run.
+/// An empty message of the type.
 pub(crate) fn empty(
+    rt: &impl Abort,
     alloc: Global,
     descriptor: &MessageDescriptor,
-) -> Result<&'static mut DynamicMessage, Fail> {
-    Ok(leaked(alloc, DynamicMessage::new(alloc, descriptor.clone()?))?)
+) -> &'static mut DynamicMessage {
+    let descriptor = descriptor.clone().expect(rt, "memory");
+    lent(rt, alloc, DynamicMessage::new(alloc, descriptor))
 }
 
 /// A message type, the digits of bytes, those of what is written again, and what is shown of the message.
@@ -204,33 +230,37 @@ static WRITTEN: [(&str, &str, &str, &str); 47] = [
 
 /// Whether the message is written as these bytes, whose length is foretold.
 pub(crate) fn is_written(
+    rt: &impl Abort,
     alloc: Global,
     message: &DynamicMessage,
     bytes: &[u8],
-) -> Result<bool, Fail> {
-    if !message.is_encodable() {
-        return Err(Fail::from("a value that does not fit"));
-    }
-    let written = message.encode_to_vec(alloc)?;
-    Ok(written.as_slice() == bytes && message.encoded_len() == Some(bytes.len()))
+) -> bool {
+    assert!(rt; message.is_encodable());
+    let is_foretold = message.encoded_len() == Some(bytes.len());
+    let written = message.encode_to_vec(alloc).expect(rt, "memory");
+    written.as_slice() == bytes && is_foretold
 }
 
-/// Whether the message is written as the bytes of these digits.
-pub(crate) fn is_written_as(
+/// Whether the message is written as the bytes of these digits, and shown as the text.
+pub(crate) fn is_written_and_shown(
+    rt: &impl Abort,
     alloc: Global,
     message: &DynamicMessage,
     digits: &str,
-) -> Result<bool, Fail> {
-    is_written(alloc, message, bytes_of(alloc, digits)?)
+    text: &str,
+) -> bool {
+    is_written(rt, alloc, message, bytes_of(rt, alloc, digits)) && shown(rt, alloc, message) == text
 }
 
 /// Why the bytes are no message of the type, if they are none.
 pub(crate) fn fault(
+    rt: &impl Abort,
     alloc: Global,
     descriptor: &MessageDescriptor,
     bytes: &[u8],
-) -> Result<Option<DecodeError>, Fail> {
-    Ok(DynamicMessage::decode(alloc, descriptor.clone()?, bytes).err())
+) -> Option<DecodeError> {
+    let descriptor = descriptor.clone().expect(rt, "memory");
+    DynamicMessage::decode(alloc, descriptor, bytes).err()
 }
 
 /// Why the bytes are no message of the type, as the search for a fault says, if they are none.
@@ -241,79 +271,61 @@ fn fault_found(descriptor: &MessageDescriptor, bytes: &[u8]) -> Option<DecodeErr
     }
 }
 
-/// The message that the bytes mean, lent to the end of the run. Each part in front of their end is
-/// read too, or ends too early, and its fault is found.
+/// The message that the bytes mean. Each part in front of their end is read too, or ends too early, and its fault is found.
 pub(crate) fn read(
+    rt: &impl Abort,
     alloc: Global,
     descriptor: &MessageDescriptor,
     bytes: &[u8],
-) -> Result<&'static DynamicMessage, Fail> {
+) -> &'static DynamicMessage {
     for len in 0..bytes.len() {
-        let fault = fault(alloc, descriptor, &bytes[..len])?;
-        if fault.is_some_and(|fault| fault != DecodeError::Truncated) {
-            return Err(Fail::from("a part with another fault"));
-        }
-        if fault_found(descriptor, &bytes[..len]) != fault {
-            return Err(Fail::from("a part whose fault is not found"));
-        }
+        let fault = fault(rt, alloc, descriptor, &bytes[..len]);
+        assert!(rt; fault.is_none() || fault == Some(DecodeError::Truncated));
+        assert!(rt; fault_found(descriptor, &bytes[..len]) == fault);
     }
-    if fault_found(descriptor, bytes).is_some() {
-        return Err(Fail::from("a fault of a message"));
-    }
-    Ok(decoded(alloc, descriptor, bytes)?)
+    assert!(rt; fault_found(descriptor, bytes).is_none());
+    decoded(rt, alloc, descriptor, bytes)
 }
 
 /// Whether the message of the worked type that the bytes mean is written as the others.
 pub(crate) fn is_rewritten(
+    rt: &impl Abort,
     alloc: Global,
     name: &str,
     bytes: &[u8],
     again: &[u8],
-) -> Result<bool, Fail> {
-    let message = DynamicMessage::decode(alloc, worked_type(alloc, name)?.clone()?, bytes)?;
-    is_written(alloc, &message, again)
+) -> bool {
+    let descriptor = message_type(rt, alloc, Set::Worked, name);
+    is_written(rt, alloc, decoded(rt, alloc, descriptor, bytes), again)
 }
 
 /// Whether the message that the bytes mean is written as the others, and something is shown of it.
 pub(crate) fn passes(
+    rt: &impl Abort,
     alloc: Global,
     descriptor: &MessageDescriptor,
     bytes: &[u8],
     again: &[u8],
-) -> Result<bool, Fail> {
-    let message = read(alloc, descriptor, bytes)?;
-    Ok(is_written(alloc, message, again)? && !shown(alloc, message)?.is_empty())
+) -> bool {
+    let message = read(rt, alloc, descriptor, bytes);
+    is_written(rt, alloc, message, again) && !shown(rt, alloc, message).is_empty()
 }
 
 /// Whether the message that the digits' bytes mean is written as those of the others, and shown as the text.
-fn is_worked(
-    alloc: Global,
-    descriptor: &MessageDescriptor,
-    digits: &str,
-    again: &str,
-    text: &str,
-) -> Result<bool, Fail> {
-    let message = read(alloc, descriptor, bytes_of(alloc, digits)?)?;
-    Ok(is_written_as(alloc, message, again)? && is_shown(alloc, message, text)?)
-}
-
-#[test]
-fn worked_messages_are_written_again(rt: HostRuntime) -> Result<(), Fail> {
-    let alloc = rt.alloc();
-    for (name, digits, again, text) in &WRITTEN {
-        let descriptor = worked_type(alloc, name)?;
-        assert!(rt;
-            is_worked(alloc, descriptor, digits, again, text)?,
-            "{digits}"
-        );
-    }
-    Ok(())
+fn is_worked(rt: &impl Abort, alloc: Global, set: Set, row: &(&str, &str, &str, &str)) -> bool {
+    let (name, digits, again, text) = *row;
+    let descriptor = message_type(rt, alloc, set, name);
+    let message = read(rt, alloc, descriptor, bytes_of(rt, alloc, digits));
+    is_written_and_shown(rt, alloc, message, again, text)
 }
 
 /// Where a pool lacks the extension, its record is unknown.
 #[test]
-fn an_extension_that_is_not_known_stays(rt: HostRuntime) -> Result<(), Fail> {
-    let descriptor = message_type(rt.alloc(), WITHOUT_EXTENSION, "b.X")?;
-    assert!(rt; is_worked(rt.alloc(), descriptor, "a00607", "a00607", "100?7 ")?);
-    Ok(())
+fn worked_messages_are_written_again(rt: HostRuntime) {
+    let alloc = rt.alloc();
+    for row in &WRITTEN {
+        assert!(rt; is_worked(&rt, alloc, Set::Worked, row), "{}", row.1);
+    }
+    let row = ("b.X", "a00607", "a00607", "100?7 ");
+    assert!(rt; is_worked(&rt, alloc, Set::WithoutExtension, &row));
 }

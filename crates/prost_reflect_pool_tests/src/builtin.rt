@@ -1,43 +1,16 @@
-//! The built-in message types, found by name and by number, and the records of their files.
+//! The built-in message types, found by name and by number, and the bytes of their files.
 
-use crate::named::{field_of, message_of};
-use prost_reflect::{DescriptorPool, FieldDescriptor, Kind, MessageDescriptor, builtin_pool};
+use crate::described::says;
+use crate::named::{is_its_copy, message_of};
+use crate::pools::is_made_of;
+use prost_reflect::{DescriptorPool, MessageDescriptor, builtin_pool};
 use prost_reflect_samples::leaked;
-use prost_reflect_tables::Cardinality;
-use prost_reflect_types::{DescriptorProto, FieldDescriptorProto, FileDescriptorProto};
 use std::alloc::{AllocError, Global};
 use std::test::Fail;
 
 /// The pool of the built-in types.
 fn builtins(alloc: Global) -> Result<&'static DescriptorPool, Fail> {
     Ok(leaked(alloc, builtin_pool(alloc)?)?)
-}
-
-/// Whether a copy of the message type is equal.
-fn is_its_copy(message: &MessageDescriptor) -> Result<bool, AllocError> {
-    Ok(*message == message.clone()?)
-}
-
-#[test]
-fn message_types_are_found_by_name(rt: HostRuntime) -> Result<(), Fail> {
-    let plain = message_of(rt.alloc(), builtins(rt.alloc())?, "builtin.Plain")?;
-    assert!(rt; plain.full_name() == "builtin.Plain");
-    assert!(rt; is_its_copy(plain)?);
-    Ok(())
-}
-
-/// Whether the field is `f_sint32`, an optional one of the number 17.
-fn is_f_sint32(field: &FieldDescriptor) -> Result<bool, AllocError> {
-    let is_sint32 = matches!(field.kind()?, Kind::Sint32);
-    let is_optional = field.cardinality() == Cardinality::Optional && field.supports_presence();
-    Ok(is_sint32 && is_optional && field.number() == 17 && field.name() == "f_sint32")
-}
-
-#[test]
-fn fields_are_found_by_number(rt: HostRuntime) -> Result<(), Fail> {
-    let field = field_of(rt.alloc(), builtins(rt.alloc())?, "builtin.Kept", 17)?;
-    assert!(rt; is_f_sint32(field)?);
-    Ok(())
 }
 
 /// The number of a field, which is the code of its type, and its name, in both built-in message types.
@@ -59,108 +32,28 @@ static FIELDS: [(u8, &str); 15] = [
     (18, "f_sint64"),
 ];
 
-/// A built-in file, its syntax, and its message type.
-static FILES: [(&str, &str, &str); 2] = [
-    ("plain.proto", "proto3", "Plain"),
-    ("kept.proto", "proto2", "Kept"),
-];
+/// `plain.proto`, of proto3, and `kept.proto`, of proto2, both in `builtin`: each has a message type, `Plain` or `Kept`, with a
+/// singular field for each row of `FIELDS`, whose records have a name, a number, a label and a type alone, and nothing else.
+static FILES: &[u8] =
+    b"\x0a\xb6\x02\x0a\x0bplain.proto\x12\x07builtin\"\x95\x02\x0a\x05Plain\x12\x10\x0a\x08f_double\x18\
+    \x01 \x01(\x01\x12\x0f\x0a\x07f_float\x18\x02 \x01(\x02\x12\x0f\x0a\x07f_int64\x18\x03 \x01(\x03\x12\
+    \x10\x0a\x08f_uint64\x18\x04 \x01(\x04\x12\x0f\x0a\x07f_int32\x18\x05 \x01(\x05\x12\x11\x0a\x09f_fix\
+    ed64\x18\x06 \x01(\x06\x12\x11\x0a\x09f_fixed32\x18\x07 \x01(\x07\x12\x0e\x0a\x06f_bool\x18\x08 \x01\
+    (\x08\x12\x10\x0a\x08f_string\x18\x09 \x01(\x09\x12\x0f\x0a\x07f_bytes\x18\x0c \x01(\x0c\x12\x10\x0a\
+    \x08f_uint32\x18\x0d \x01(\x0d\x12\x12\x0a\x0af_sfixed32\x18\x0f \x01(\x0f\x12\x12\x0a\x0af_sfixed64\
+    \x18\x10 \x01(\x10\x12\x10\x0a\x08f_sint32\x18\x11 \x01(\x11\x12\x10\x0a\x08f_sint64\x18\x12 \x01(\
+    \x12b\x06proto3\x0a\xb4\x02\x0a\x0akept.proto\x12\x07builtin\"\x94\x02\x0a\x04Kept\x12\x10\x0a\x08f_\
+    double\x18\x01 \x01(\x01\x12\x0f\x0a\x07f_float\x18\x02 \x01(\x02\x12\x0f\x0a\x07f_int64\x18\x03 \
+    \x01(\x03\x12\x10\x0a\x08f_uint64\x18\x04 \x01(\x04\x12\x0f\x0a\x07f_int32\x18\x05 \x01(\x05\x12\x11\
+    \x0a\x09f_fixed64\x18\x06 \x01(\x06\x12\x11\x0a\x09f_fixed32\x18\x07 \x01(\x07\x12\x0e\x0a\x06f_bool\
+    \x18\x08 \x01(\x08\x12\x10\x0a\x08f_string\x18\x09 \x01(\x09\x12\x0f\x0a\x07f_bytes\x18\x0c \x01(\
+    \x0c\x12\x10\x0a\x08f_uint32\x18\x0d \x01(\x0d\x12\x12\x0a\x0af_sfixed32\x18\x0f \x01(\x0f\x12\x12\
+    \x0a\x0af_sfixed64\x18\x10 \x01(\x10\x12\x10\x0a\x08f_sint32\x18\x11 \x01(\x11\x12\x10\x0a\x08f_sint\
+    64\x18\x12 \x01(\x12b\x06proto2";
 
-/// Whether the text is there, and is this one.
-fn is(text: &Option<String>, expected: &str) -> bool {
-    match text {
-        Some(text) => text.as_str() == expected,
-        None => false,
-    }
-}
-
-/// Whether the field is a singular one of this number, which is the code of its type, and of this name.
-fn is_scalar(record: &FieldDescriptorProto, number: u8, name: &str) -> bool {
-    let number = i32::from(number);
-    is(&record.name, name)
-        && record.number == Some(number)
-        && record.type_ == Some(number)
-        && record.label == Some(1)
-        && is_bare(record)
-}
-
-/// Whether the field has no other type, JSON name, default, options and oneof, and is no extension.
-fn is_bare(record: &FieldDescriptorProto) -> bool {
-    record.extendee.is_none()
-        && record.type_name.is_none()
-        && record.json_name.is_none()
-        && record.default_value.is_none()
-        && record.options.is_none()
-        && record.oneof_index.is_none()
-        && record.proto3_optional.is_none()
-}
-
-/// Whether the message type has the name and the fields, and nothing else.
-fn is_scalar_message(record: &DescriptorProto, name: &str) -> bool {
-    let mut rows = FIELDS.iter();
-    let mut all = is(&record.name, name) && has_fields_alone(record);
-    for field in &record.field {
-        all &= match rows.next() {
-            Some((number, name)) => is_scalar(field, *number, name),
-            None => false,
-        };
-    }
-    all && rows.next().is_none()
-}
-
-/// Whether the message type declares no more than fields.
-fn has_fields_alone(record: &DescriptorProto) -> bool {
-    record.nested_type.is_empty()
-        && record.enum_type.is_empty()
-        && record.extension_range.is_empty()
-        && record.extension.is_empty()
-        && record.options.is_none()
-        && record.oneof_decl.is_empty()
-        && record.reserved_range.is_empty()
-        && record.reserved_name.is_empty()
-}
-
-/// Whether the file has the name and the syntax, and the one message type alone.
-fn is_scalar_file(record: &FileDescriptorProto, row: &(&str, &str, &str)) -> bool {
-    let [message] = record.message_type.as_slice() else {
-        return false;
-    };
-    is(&record.name, row.0)
-        && is(&record.package, "builtin")
-        && is(&record.syntax, row.1)
-        && is_scalar_message(message, row.2)
-        && has_message_types_alone(record)
-}
-
-/// Whether the file declares no more than message types, and depends on no other.
-fn has_message_types_alone(record: &FileDescriptorProto) -> bool {
-    record.dependency.is_empty()
-        && record.enum_type.is_empty()
-        && record.service.is_empty()
-        && record.extension.is_empty()
-        && record.options.is_none()
-        && record.source_code_info.is_none()
-        && record.public_dependency.is_empty()
-        && record.weak_dependency.is_empty()
-}
-
-/// Whether the pool has the files of the rows alone.
-fn has_files(pool: &DescriptorPool) -> bool {
-    let mut rows = FILES.iter();
-    let mut all = true;
-    for file in pool.file_descriptor_protos() {
-        all &= match rows.next() {
-            Some(row) => is_scalar_file(file, row),
-            None => false,
-        };
-    }
-    all && rows.next().is_none()
-}
-
-#[test]
-fn built_in_files_have_scalar_fields(rt: HostRuntime) -> Result<(), Fail> {
-    assert!(rt; has_files(builtins(rt.alloc())?));
-    Ok(())
-}
+/// What the descriptor of the field 17 of `Kept` says.
+static SINT32: &str =
+    "\nfield builtin.Kept.f_sint32 path=4.0.2.13 json=f_sint32 number=17 kind=Sint32 wire=0 cardinality=Optional presence=true packed=false group=false list=false map=false required=false oneof=-\n";
 
 /// The name of the field of the number, or none.
 fn name_of(number: u32) -> &'static str {
@@ -183,10 +76,13 @@ fn has_row(message: &MessageDescriptor, number: u32, presence: bool) -> Result<b
 
 /// The numbers 10, 11, 14 and those above 18 are of no field. All fields of `Kept` have presence, and none of `Plain`.
 #[test]
-fn built_in_types_know_their_numbers(rt: HostRuntime) -> Result<(), Fail> {
+fn built_in_files_have_scalar_fields(rt: HostRuntime) -> Result<(), Fail> {
     let pool = builtins(rt.alloc())?;
+    assert!(rt; is_made_of(rt.alloc(), pool, FILES)?);
+    assert!(rt; says(rt.alloc(), pool, SINT32)?);
     for (name, presence) in [("builtin.Plain", false), ("builtin.Kept", true)] {
         let message = message_of(rt.alloc(), pool, name)?;
+        assert!(rt; is_its_copy(message)? && message.full_name() == name);
         for number in 0..30_u32 {
             assert!(rt; has_row(message, number, presence)?, "{number}");
         }

@@ -1,15 +1,17 @@
 //! Handles of one pool are compared in a fixed number of steps, however many files it has, and so are handles of two places.
 
-use crate::named::{field_of, message_of};
-use prost_reflect::{DescriptorPool, DynamicMessage, FieldDescriptor, MessageDescriptor};
+use crate::many::append;
+use crate::named::{field_of, lent, message_of, pool_of};
+use prost_reflect::{
+    DescriptorPool, DynamicMessage, ExtensionDescriptor, FieldDescriptor, Kind, MessageDescriptor,
+    Value,
+};
 use prost_reflect_samples::leaked;
-use prost_reflect_types::{FieldDescriptorProto, FileDescriptorProto, Proto};
-use std::alloc::Global;
-use std::mem;
+use std::alloc::{AllocError, Global};
 use std::test::Fail;
 
-/// How many fields the message type of each file has.
-const FIELDS: i32 = 25;
+/// How many fields of int32 the message type of each file has.
+const FIELDS: u8 = 25;
 
 /// How many files the pools have.
 const SIZES: [usize; 2] = [100, 400];
@@ -17,69 +19,115 @@ const SIZES: [usize; 2] = [100, 400];
 /// How often handles are compared.
 const TIMES: usize = 400_000;
 
-/// `optional int32 fN = N;`
-fn field(alloc: Global, number: i32) -> Result<FieldDescriptorProto, Fail> {
-    let name = format!(in alloc; "f{number}")?;
-    let mut field = FieldDescriptorProto::decode(alloc, b" \x01(\x05")?;
-    field.name = Some(name);
-    field.number = Some(number);
-    Ok(field)
+/// Appends the file `N.proto`, in `pN`, for a number of three digits: `message M`, which has the fields, `optional M m = 26` and
+/// `extensions 100 to 199`, and `extend M { optional int32 x = 100; }`.
+fn append_file(set: &mut Vec<u8>, number: usize, fields: &[u8]) -> Result<(), AllocError> {
+    let alloc = *set.allocator();
+    let a = (number / 100 % 10) as u8 + b'0';
+    let b = (number / 10 % 10) as u8 + b'0';
+    let c = (number % 10) as u8 + b'0';
+    let message = leaked(alloc, Vec::from_slice(alloc, fields)?)?;
+    message.extend_from_slice(&[
+        0x12, 17, 0x0a, 1, b'm', 0x18, 26, 0x20, 1, 0x28, 11, 0x32, 6, b'p', a, b, c, b'.', b'M',
+    ])?;
+    let file = leaked(alloc, Vec::new(alloc))?;
+    file.extend_from_slice(&[0x0a, 9, a, b, c, b'.', b'p', b'r', b'o', b't', b'o'])?;
+    file.extend_from_slice(&[0x12, 4, b'p', a, b, c])?;
+    append(file, 0x22, message)?;
+    file.extend_from_slice(&[
+        0x3a, 17, 0x0a, 1, b'x', 0x12, 6, b'p', a, b, c, b'.', b'M', 0x18, 100, 0x20, 1, 0x28, 5,
+    ])?;
+    append(set, 0x0a, file)
 }
 
-/// Makes the file `N.proto`, with its message type of the fields 1 to 25, in `pN`.
-fn fill(alloc: Global, file: &mut FileDescriptorProto, place: usize) -> Result<(), Fail> {
-    file.name = Some(format!(in alloc; "{place}.proto")?);
-    file.package = Some(format!(in alloc; "p{place}")?);
-    for message in &mut file.message_type {
-        for number in 1..=FIELDS {
-            message.field.push(field(alloc, number)?)?;
-        }
-    }
-    Ok(())
-}
-
-/// A pool of so many files, each with `message M`.
+/// A pool of so many files.
 fn pool_of_files(alloc: Global, count: usize) -> Result<&'static DescriptorPool, Fail> {
-    let files = leaked(alloc, Vec::new(alloc))?;
-    for place in 0..count {
-        files.push(FileDescriptorProto::decode(alloc, b"\x22\x03\x0a\x01M")?)?;
-        if let Some(file) = files.last_mut() {
-            fill(alloc, file, place)?;
-        }
+    let fields = leaked(
+        alloc,
+        Vec::from_slice(alloc, b"\x0a\x01M*\x05\x08d\x10\xc8\x01")?,
+    )?;
+    for number in 1..=FIELDS {
+        let (high, low) = (b'0' + number / 10 % 10, b'0' + number % 10);
+        fields.extend_from_slice(&[
+            0x12, 11, 0x0a, 3, b'f', high, low, 0x18, number, 0x20, 1, 0x28, 5,
+        ])?;
     }
-    let pool = leaked(alloc, DescriptorPool::new(alloc)?)?;
-    pool.add_file_descriptor_protos(mem::replace(files, Vec::new(alloc)))?;
-    Ok(pool)
+    let set = leaked(alloc, Vec::new(alloc))?;
+    for number in 0..count {
+        append_file(set, number, fields)?;
+    }
+    pool_of(alloc, set)
 }
 
-/// Handles of a pool: of itself, of the message type and a field of its first file, and of a message of that type.
+/// Handles of a pool: of itself, and of the message type, the extension and a field of one of its files; the kind of the field
+/// `m` of that type, an empty message of it, as a value, and a message that has such a one in `m`.
 #[derive(Clone, Copy)]
 struct Handles {
     pool: &'static DescriptorPool,
     message_type: &'static MessageDescriptor,
+    extension: &'static ExtensionDescriptor,
     field: &'static FieldDescriptor,
+    kind: &'static Kind,
+    empty: &'static Value,
     message: &'static DynamicMessage,
 }
 
+/// An empty message of the type, as a value.
+fn empty(alloc: Global, message_type: &MessageDescriptor) -> Result<Value, AllocError> {
+    Ok(Value::Message(DynamicMessage::new(alloc, message_type.clone()?)))
+}
+
+/// A message of the type that has an empty one of another type in `m`.
+fn around(
+    alloc: Global,
+    message_type: &MessageDescriptor,
+    inner: &MessageDescriptor,
+) -> Result<&'static DynamicMessage, Fail> {
+    let message = leaked(alloc, DynamicMessage::new(alloc, message_type.clone()?))?;
+    let lent = message.get_field_by_number_mut(alloc, 26)?;
+    *lent = empty(alloc, inner)?;
+    Ok(message)
+}
+
 impl Handles {
-    /// Handles of the pool.
-    fn of(alloc: Global, pool: &DescriptorPool) -> Result<Handles, Fail> {
-        let message_type = message_of(alloc, pool, "p0.M")?;
+    /// Handles of the pool: of what the names of a message type and of its extension say, and of the field of the number.
+    fn of(
+        alloc: Global,
+        pool: &DescriptorPool,
+        (name, extension): (&str, &str),
+        number: u32,
+    ) -> Result<Handles, Fail> {
+        let message_type = message_of(alloc, pool, name)?;
         Ok(Handles {
             pool: leaked(alloc, pool.clone()?)?,
             message_type,
-            field: field_of(alloc, pool, "p0.M", 1)?,
-            message: leaked(alloc, DynamicMessage::new(alloc, message_type.clone()?))?,
+            extension: lent(alloc, pool.get_extension_by_name(extension))?,
+            field: field_of(alloc, pool, "p000.M", number)?,
+            kind: leaked(alloc, field_of(alloc, pool, name, 26)?.kind()?)?,
+            empty: leaked(alloc, empty(alloc, message_type)?)?,
+            message: around(alloc, message_type, message_type)?,
         })
     }
 
-    /// Whether each is equal to the other of its sort, and the field is one of the message.
+    /// Whether each is equal to the other of its sort, the field and the extension are those of the message, and the empty
+    /// message is the default of the kind.
     fn are_equal(&self, others: &Handles) -> bool {
         *self.pool == *others.pool
             && *self.message_type == *others.message_type
             && *self.field == *others.field
             && *self.message == *others.message
             && self.message.owns_field(others.field)
+            && self.message.owns_extension(others.extension)
+            && self.empty.is_default(others.kind)
+    }
+
+    /// Whether none is equal to the other of its sort, and the extension and the kind are of another message type.
+    fn are_different(&self, others: &Handles) -> bool {
+        *self.message_type != *others.message_type
+            && *self.field != *others.field
+            && *self.message != *others.message
+            && !self.message.owns_extension(others.extension)
+            && !self.empty.is_default(others.kind)
     }
 }
 
@@ -91,19 +139,17 @@ fn handles_are_told_at_once(rt: HostRuntime) -> Result<(), Fail> {
     for count in SIZES {
         let pool = pool_of_files(rt.alloc(), count)?;
         let twin = pool_of_files(rt.alloc(), count)?;
-        let handles = Handles::of(rt.alloc(), pool)?;
-        let others = Handles::of(rt.alloc(), pool)?;
-        let second_type = message_of(rt.alloc(), twin, "p1.M")?;
-        let second_field = field_of(rt.alloc(), twin, "p0.M", 2)?;
+        let handles = Handles::of(rt.alloc(), pool, ("p000.M", "p000.x"), 1)?;
+        let others = Handles::of(rt.alloc(), pool, ("p000.M", "p000.x"), 1)?;
+        let second = Handles::of(rt.alloc(), twin, ("p001.M", "p001.x"), 2)?;
+        let mixed = around(rt.alloc(), handles.message_type, second.message_type)?;
         for _ in 0..TIMES {
             assert!(rt; handles.are_equal(&others), "{count}");
-            assert!(rt; *handles.message_type != *second_type, "{count}");
-            assert!(rt; *handles.field != *second_field, "{count}");
+            assert!(rt; handles.are_different(&second), "{count}");
+            assert!(rt; handles.message.is_typed() && !mixed.is_typed(), "{count}");
         }
-        assert!(rt;
-            handles.are_equal(&Handles::of(rt.alloc(), twin)?),
-            "{count}"
-        );
+        let twins = Handles::of(rt.alloc(), twin, ("p000.M", "p000.x"), 1)?;
+        assert!(rt; handles.are_equal(&twins), "{count}");
     }
     Ok(())
 }

@@ -3,21 +3,15 @@
 #![tactic(auto)]
 
 #[cfg(test)]
-mod additions;
-#[cfg(test)]
 mod builtin;
 #[cfg(test)]
 mod describe;
 #[cfg(test)]
 mod described;
 #[cfg(test)]
-mod descriptors;
-#[cfg(test)]
 mod found;
 #[cfg(test)]
 mod handles;
-#[cfg(test)]
-mod lookups;
 #[cfg(test)]
 mod many;
 #[cfg(test)]

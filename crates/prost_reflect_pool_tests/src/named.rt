@@ -1,26 +1,82 @@
-//! Pools and their definitions, by names, lent to the end of the run.
+//! Descriptor sets, their pools, and the definitions of these by names, lent to the end of the run.
 
-use prost_reflect::{
-    DescriptorPool, EnumDescriptor, FieldDescriptor, FileDescriptor, MessageDescriptor,
-    MethodDescriptor, OneofDescriptor, ServiceDescriptor,
-};
+use crate::described::{STREAMED, V_AND_W};
+use crate::found::{K_AND_O, SMALL};
+use crate::options::{BARE, O_PROTO, OPTIONS_OF_BOOL, OPTIONS_OF_TEXT, USER};
+use crate::pools::{A_AND_B, B_AND_A, M_OF_EDITIONS, NAMELESS, SET_M, SOUND_AND_EDITIONS};
+use crate::schema::SCHEMA;
+use crate::whole::WHOLE;
+use prost_reflect::{DescriptorPool, FieldDescriptor, MessageDescriptor};
 use prost_reflect_samples::leaked;
-use std::alloc::Global;
+use std::alloc::{AllocError, Global};
 use std::test::Fail;
 
-/// The pool of the descriptor set.
-pub(crate) fn pool_of(alloc: Global, set: &[u8]) -> Result<&'static DescriptorPool, Fail> {
-    Ok(leaked(alloc, DescriptorPool::decode(alloc, set)?)?)
+/// A descriptor set, by the name of its bytes.
+#[derive(Clone, Copy)]
+pub(crate) enum Set {
+    /// No bytes.
+    Empty,
+    M,
+    AAndB,
+    BAndA,
+    SoundAndEditions,
+    MOfEditions,
+    Nameless,
+    KAndO,
+    Small,
+    Streamed,
+    VAndW,
+    Schema,
+    Whole,
+    OProto,
+    Bare,
+    User,
+    OptionsOfBool,
+    OptionsOfText,
 }
 
-/// The file of the name.
-pub(crate) fn file_of(
+impl Set {
+    /// The bytes.
+    pub(crate) fn bytes(self) -> &'static [u8] {
+        match self {
+            Set::Empty => b"",
+            Set::M => SET_M,
+            Set::AAndB => A_AND_B,
+            Set::BAndA => B_AND_A,
+            Set::SoundAndEditions => SOUND_AND_EDITIONS,
+            Set::MOfEditions => M_OF_EDITIONS,
+            Set::Nameless => NAMELESS,
+            Set::KAndO => K_AND_O,
+            Set::Small => SMALL,
+            Set::Streamed => STREAMED,
+            Set::VAndW => V_AND_W,
+            Set::Schema => SCHEMA,
+            Set::Whole => WHOLE,
+            Set::OProto => O_PROTO,
+            Set::Bare => BARE,
+            Set::User => USER,
+            Set::OptionsOfBool => OPTIONS_OF_BOOL,
+            Set::OptionsOfText => OPTIONS_OF_TEXT,
+        }
+    }
+}
+
+/// The pool of the bytes.
+pub(crate) fn pool_of(alloc: Global, bytes: &[u8]) -> Result<&'static DescriptorPool, Fail> {
+    Ok(leaked(alloc, DescriptorPool::decode(alloc, bytes)?)?)
+}
+
+/// The definition that was found.
+pub(crate) fn lent<'a, D: Drop + 'a>(
     alloc: Global,
-    pool: &DescriptorPool,
-    name: &str,
-) -> Result<&'static FileDescriptor, Fail> {
-    let found = pool.get_file_by_name(name)?;
-    Ok(leaked(alloc, found.ok_or("no such file")?)?)
+    found: Result<Option<D>, AllocError>,
+) -> Result<&'a D, Fail> {
+    Ok(leaked(alloc, found?.ok_or("no such definition")?)?)
+}
+
+/// Whether a copy is equal.
+pub(crate) fn is_its_copy<T: Clone + PartialEq>(value: &T) -> Result<bool, AllocError> {
+    Ok(value.clone()? == *value)
 }
 
 /// The message type of the full name.
@@ -29,28 +85,16 @@ pub(crate) fn message_of(
     pool: &DescriptorPool,
     name: &str,
 ) -> Result<&'static MessageDescriptor, Fail> {
-    let found = pool.get_message_by_name(name)?;
-    Ok(leaked(alloc, found.ok_or("no such type")?)?)
+    lent(alloc, pool.get_message_by_name(name))
 }
 
-/// The enum of the full name.
-pub(crate) fn enum_of(
+/// The message type of the full name in the pool of the set.
+pub(crate) fn type_in(
     alloc: Global,
-    pool: &DescriptorPool,
+    set: Set,
     name: &str,
-) -> Result<&'static EnumDescriptor, Fail> {
-    let found = pool.get_enum_by_name(name)?;
-    Ok(leaked(alloc, found.ok_or("no such enum")?)?)
-}
-
-/// The service of the full name.
-pub(crate) fn service_of(
-    alloc: Global,
-    pool: &DescriptorPool,
-    name: &str,
-) -> Result<&'static ServiceDescriptor, Fail> {
-    let found = pool.get_service_by_name(name)?;
-    Ok(leaked(alloc, found.ok_or("no such service")?)?)
+) -> Result<&'static MessageDescriptor, Fail> {
+    message_of(alloc, pool_of(alloc, set.bytes())?, name)
 }
 
 /// The field of the message type.
@@ -60,25 +104,5 @@ pub(crate) fn field_of(
     message: &str,
     number: u32,
 ) -> Result<&'static FieldDescriptor, Fail> {
-    let found = message_of(alloc, pool, message)?.get_field(number)?;
-    Ok(leaked(alloc, found.ok_or("no such field")?)?)
-}
-
-/// The first method of the service.
-pub(crate) fn method_of(
-    alloc: Global,
-    pool: &DescriptorPool,
-    service: &str,
-) -> Result<&'static MethodDescriptor, Fail> {
-    let first = service_of(alloc, pool, service)?.methods().next();
-    Ok(leaked(alloc, first.ok_or("no method")??)?)
-}
-
-/// The first oneof of the message type.
-pub(crate) fn oneof_of(
-    alloc: Global,
-    message: &MessageDescriptor,
-) -> Result<&'static OneofDescriptor, Fail> {
-    let first = message.oneofs().next();
-    Ok(leaked(alloc, first.ok_or("no oneof")??)?)
+    lent(alloc, message_of(alloc, pool, message)?.get_field(number))
 }

@@ -1,11 +1,12 @@
-//! Pools that are made of descriptor sets, and what is added to them.
+//! Pools that are made of descriptor sets and of records, what is added to them, and what is refused.
 
-use crate::named::{message_of, pool_of};
-use prost_reflect::DescriptorPool;
+use crate::named::{Set, lent, message_of, pool_of, type_in};
+use crate::whole::WHOLE;
+use prost_reflect::{
+    DecodeError, DescriptorPool, FileDescriptor, FileDescriptorProto, FileDescriptorSet,
+    MessageDescriptor, PoolError, Proto,
+};
 use prost_reflect_samples::leaked;
-use prost_reflect_tables::PoolError;
-use prost_reflect_types::{FileDescriptorProto, FileDescriptorSet, Proto};
-use prost_reflect_wire::{DecodeError, EncodeError};
 use std::alloc::{AllocError, Global};
 use std::test::Fail;
 
@@ -16,46 +17,31 @@ pub(crate) static SET_M: &[u8] =
     ageB\x0a\x0a\x08optionalb\x06proto3";
 
 /// `a.proto` and `b.proto`, which depend on each other.
-static A_AND_B: &[u8] =
+pub(crate) static A_AND_B: &[u8] =
     b"\x0a.\x0a\x07a.proto\x1a\x07b.proto\"\x12\x0a\x01A\x12\x0d\x0a\x01x\x18\x01 \x01(\x0b2\x02.Bb\
     \x06proto3\x0a.\x0a\x07b.proto\x1a\x07a.proto\"\x12\x0a\x01B\x12\x0d\x0a\x01x\x18\x01 \x01(\x0b2\
     \x02.Ab\x06proto3";
 
-static B_AND_A: &[u8] =
+pub(crate) static B_AND_A: &[u8] =
     b"\x0a.\x0a\x07b.proto\x1a\x07a.proto\"\x12\x0a\x01B\x12\x0d\x0a\x01x\x18\x01 \x01(\x0b2\x02.Ab\
     \x06proto3\x0a.\x0a\x07a.proto\x1a\x07b.proto\"\x12\x0a\x01A\x12\x0d\x0a\x01x\x18\x01 \x01(\x0b2\
     \x02.Bb\x06proto3";
 
 /// `sound.proto`, and `editions.proto` of the syntax `editions`.
-static SOUND_AND_EDITIONS: &[u8] =
+pub(crate) static SOUND_AND_EDITIONS: &[u8] =
     b"\x0a\x16\x0a\x0bsound.proto\"\x07\x0a\x05Sound\x0a\x1a\x0a\x0eeditions.protob\x08editions";
 
-/// Whether the pool is written as these bytes.
-pub(crate) fn is_written_as(
-    alloc: Global,
-    pool: &DescriptorPool,
-    bytes: &[u8],
-) -> Result<bool, EncodeError> {
-    Ok(pool.encode_to_vec(alloc)?.as_slice() == bytes)
-}
+/// A file `m.proto` that no pool takes.
+pub(crate) static M_OF_EDITIONS: &[u8] = b"\x0a\x13\x0a\x07m.protob\x08editions";
+
+/// A file that has the message `Z` and no name.
+pub(crate) static NAMELESS: &[u8] = b"\x0a\x05\x22\x03\x0a\x01Z";
 
 /// The bytes of both, one behind the other.
-pub(crate) fn joined(
-    alloc: Global,
-    front: &[u8],
-    rest: &[u8],
-) -> Result<&'static Vec<u8>, AllocError> {
+fn joined(alloc: Global, front: &[u8], rest: &[u8]) -> Result<&'static Vec<u8>, AllocError> {
     let bytes = leaked(alloc, Vec::from_slice(alloc, front)?)?;
     bytes.extend_from_slice(rest)?;
     Ok(bytes)
-}
-
-/// Why no pool is made of the bytes.
-pub(crate) fn refusal(alloc: Global, bytes: &[u8]) -> Option<PoolError> {
-    match DescriptorPool::decode(alloc, bytes) {
-        Ok(_) => None,
-        Err(error) => Some(error),
-    }
 }
 
 /// A pool of the set, to which another one is added.
@@ -69,82 +55,136 @@ pub(crate) fn with_added(
     Ok(pool)
 }
 
-#[test]
-fn a_set_is_encoded_as_it_was_read(rt: HostRuntime) -> Result<(), Fail> {
-    let pool = with_added(rt.alloc(), SET_M, SET_M)?;
-    assert!(rt; is_written_as(rt.alloc(), pool, SET_M)?);
-    assert!(rt; *pool == *pool_of(rt.alloc(), SET_M)?);
-    Ok(())
+/// How a pool is made of a set, and of what comes behind it.
+#[derive(Clone, Copy)]
+enum Way {
+    /// Both are read, one after the other.
+    Added,
+    /// Both are read as one.
+    Joined,
+    /// The set's records make the pool.
+    FromSet,
+    /// The records of both are added, of the first as a set and of the second as a list.
+    Records,
+    /// The record of the set's only file is added.
+    File,
+    /// The set's only file is read and added.
+    ReadFile,
 }
 
-#[test]
-fn a_set_makes_a_pool(rt: HostRuntime) -> Result<(), Fail> {
-    let set = FileDescriptorSet::decode(rt.alloc(), A_AND_B)?;
-    let pool = DescriptorPool::from_file_descriptor_set(rt.alloc(), set)?;
-    assert!(rt; is_written_as(rt.alloc(), leaked(rt.alloc(), pool)?, A_AND_B)?);
-    Ok(())
-}
-
-/// A pool to which a file is added.
-fn of_file(alloc: Global, bytes: &[u8]) -> Result<&'static DescriptorPool, Fail> {
+/// The pool that is made so.
+fn made(alloc: Global, way: Way, set: &[u8], rest: &[u8]) -> Result<&'static DescriptorPool, Fail> {
     let pool = leaked(alloc, DescriptorPool::new(alloc)?)?;
-    pool.add_file_descriptor_proto(FileDescriptorProto::decode(alloc, bytes)?)?;
+    // The only file of a set stands behind a key and a length of a byte each.
+    let file = set.get(2..).ok_or("no file")?;
+    match way {
+        Way::Added => return with_added(alloc, set, rest),
+        Way::Joined => return pool_of(alloc, joined(alloc, set, rest)?),
+        Way::FromSet => {
+            let set = FileDescriptorSet::decode(alloc, set)?;
+            *pool = DescriptorPool::from_file_descriptor_set(alloc, set)?;
+        }
+        Way::Records => {
+            pool.add_file_descriptor_set(FileDescriptorSet::decode(alloc, set)?)?;
+            pool.add_file_descriptor_protos(FileDescriptorSet::decode(alloc, rest)?.file)?;
+        }
+        Way::File => pool.add_file_descriptor_proto(FileDescriptorProto::decode(alloc, file)?)?,
+        Way::ReadFile => pool.decode_file_descriptor_proto(file)?,
+    }
     Ok(pool)
 }
 
-/// A pool to which a file is read and added.
-fn of_read_file(alloc: Global, bytes: &[u8]) -> Result<&'static DescriptorPool, Fail> {
-    let pool = leaked(alloc, DescriptorPool::new(alloc)?)?;
-    pool.decode_file_descriptor_proto(bytes)?;
-    Ok(pool)
+/// A way, a set, what comes behind it, and how much of that is in the pool.
+static WAYS: [(Way, Set, Set, Set); 8] = [
+    (Way::Added, Set::M, Set::M, Set::Empty),
+    (Way::FromSet, Set::AAndB, Set::Empty, Set::Empty),
+    (Way::File, Set::M, Set::Empty, Set::Empty),
+    (Way::ReadFile, Set::M, Set::Empty, Set::Empty),
+    (Way::Records, Set::Schema, Set::Empty, Set::Empty),
+    (Way::Records, Set::Schema, Set::Whole, Set::Whole),
+    // Of files of one name the first counts, and the others are not looked at.
+    (Way::Added, Set::M, Set::MOfEditions, Set::Empty),
+    (Way::Joined, Set::M, Set::MOfEditions, Set::Empty),
+];
+
+/// Whether a pool of the bytes is equal, and these are written of the pool.
+pub(crate) fn is_made_of(alloc: Global, pool: &DescriptorPool, bytes: &[u8]) -> Result<bool, Fail> {
+    let written = leaked(alloc, Vec::new(alloc))?;
+    pool.encode(written)?;
+    let again = pool_of(alloc, bytes)?;
+    let are_written = written.as_slice() == bytes && pool.encode_to_vec(alloc)?.as_slice() == bytes;
+    Ok(are_written && *pool == *again)
 }
 
-/// The file of the set stands behind a key and a length of a byte each.
-#[test]
-fn a_file_is_added(rt: HostRuntime) -> Result<(), Fail> {
-    assert!(rt; is_written_as(rt.alloc(), of_file(rt.alloc(), &SET_M[2..])?, SET_M)?);
-    assert!(rt; is_written_as(rt.alloc(), of_read_file(rt.alloc(), &SET_M[2..])?, SET_M)?);
-    Ok(())
+/// Where the record of the last file of `WHOLE` begins, which ends with it.
+const LAST: usize = 374;
+
+/// Whether the file is written as the last one of `WHOLE`, alone and behind the others.
+fn is_last(alloc: Global, file: &FileDescriptor) -> Result<bool, Fail> {
+    let written = leaked(alloc, Vec::from_slice(alloc, &WHOLE[..LAST])?)?;
+    file.encode(written)?;
+    Ok(written.as_slice() == WHOLE && file.encode_to_vec(alloc)?.as_slice() == &WHOLE[LAST..])
 }
 
+/// Files and sets are read and added, and a pool of the bytes is equal; a pool and a file are written again.
 #[test]
-fn files_are_lent(rt: HostRuntime) -> Result<(), Fail> {
-    let pool = pool_of(rt.alloc(), SET_M)?;
-    let files = pool.file_descriptor_protos();
-    assert!(rt; files.len() == 1);
-    for file in files {
-        assert!(rt; file.message_type.len() == 1);
+fn pools_are_made_and_written_again(rt: HostRuntime) -> Result<(), Fail> {
+    for (place, (way, set, rest, kept)) in WAYS.iter().enumerate() {
+        let pool = made(rt.alloc(), *way, set.bytes(), rest.bytes())?;
+        let bytes = joined(rt.alloc(), set.bytes(), kept.bytes())?;
+        assert!(rt; is_made_of(rt.alloc(), pool, bytes)?, "{place}");
     }
+    let pool = pool_of(rt.alloc(), WHOLE)?;
+    let file = lent(rt.alloc(), pool.get_file_by_name("whole.proto"))?;
+    assert!(rt; is_last(rt.alloc(), file)?);
     Ok(())
 }
 
-/// Whether the pool has two files, and a message type `A`.
-fn has_a_among_two_files(pool: &DescriptorPool) -> Result<bool, AllocError> {
-    let is_found = pool.get_message_by_name("A")?.is_some();
-    Ok(is_found && pool.file_descriptor_protos().len() == 2)
-}
-
-#[test]
-fn files_may_come_in_any_order(rt: HostRuntime) -> Result<(), Fail> {
-    for bytes in [A_AND_B, B_AND_A] {
-        let pool = pool_of(rt.alloc(), bytes)?;
-        assert!(rt; has_a_among_two_files(pool)?);
+/// How many files there are, how many the first and those behind it are, how many records of files are lent, and how many
+/// message types these have at their tops.
+fn file_counts(pool: &DescriptorPool) -> [usize; 4] {
+    let mut files = pool.files();
+    let count = files.len();
+    let walked = if files.next().is_some() {
+        files.len().wrapping_add(1)
+    } else {
+        0
+    };
+    let mut tops: usize = 0;
+    for file in pool.file_descriptor_protos() {
+        tops = tops.wrapping_add(file.message_type.len());
     }
-    Ok(())
+    [count, walked, pool.file_descriptor_protos().len(), tops]
 }
 
-/// Whether the set is refused by this fault, and adds nothing to the empty pool.
-fn adds_nothing(pool: &mut DescriptorPool, set: &[u8], fault: PoolError) -> bool {
-    let refused = pool.decode_file_descriptor_set(set) == Err(fault);
-    refused && pool.file_descriptor_protos().len() == 0
+/// How many message types, enums, extensions and services there are.
+fn counts(pool: &DescriptorPool) -> [usize; 4] {
+    [
+        pool.all_messages().len(),
+        pool.all_enums().len(),
+        pool.all_extensions().len(),
+        pool.services().len(),
+    ]
 }
 
-#[test]
-fn a_refused_batch_adds_nothing(rt: HostRuntime) -> Result<(), Fail> {
-    let pool = leaked(rt.alloc(), DescriptorPool::new(rt.alloc())?)?;
-    assert!(rt; adds_nothing(pool, SOUND_AND_EDITIONS, PoolError::UnknownSyntax));
-    Ok(())
+/// How many fields the message type has, and how many ranges and names it keeps.
+fn member_counts(message: &MessageDescriptor) -> [usize; 4] {
+    [
+        message.fields().len(),
+        message.reserved_ranges().len(),
+        message.extension_ranges().len(),
+        message.reserved_names().len(),
+    ]
 }
+
+/// A set, and how many files and definitions its pool has, in the order of `file_counts` and `counts`.
+static SIZES: [(Set, [usize; 4], [usize; 4]); 5] = [
+    (Set::Empty, [0; 4], [0; 4]),
+    (Set::M, [1; 4], [1, 0, 0, 0]),
+    (Set::AAndB, [2; 4], [2, 0, 0, 0]),
+    (Set::BAndA, [2; 4], [2, 0, 0, 0]),
+    (Set::Whole, [3, 3, 3, 4], [9, 2, 2, 1]),
+];
 
 /// How many files the pool has, how many a copy of it from before an addition, and how many the pool of a descriptor from
 /// before it.
@@ -159,39 +199,45 @@ fn counts_after_addition(alloc: Global, pool: &mut DescriptorPool) -> Result<[us
     ])
 }
 
-/// A descriptor and a copy keep the pool as it was before an addition.
+/// How many definitions the lists have is known before they are walked, and while they are. A descriptor and a copy keep the pool
+/// as it was before an addition.
 #[test]
-fn an_addition_changes_no_descriptor(rt: HostRuntime) -> Result<(), Fail> {
+fn files_and_definitions_are_counted(rt: HostRuntime) -> Result<(), Fail> {
+    for (set, files, definitions) in SIZES {
+        let pool = pool_of(rt.alloc(), set.bytes())?;
+        assert_eq!(rt; file_counts(pool), files);
+        assert_eq!(rt; counts(pool), definitions);
+    }
+    let message = type_in(rt.alloc(), Set::Whole, "w.x.A")?;
+    assert!(rt; member_counts(message) == [3, 2, 2, 1]);
     let pool = leaked(rt.alloc(), DescriptorPool::decode(rt.alloc(), SET_M)?)?;
     assert!(rt; counts_after_addition(rt.alloc(), pool)? == [3, 1, 1]);
     Ok(())
 }
 
-/// A file `m.proto` that no pool takes.
-static M_OF_EDITIONS: &[u8] = b"\x0a\x13\x0a\x07m.protob\x08editions";
-
-/// Of files of one name the first counts, and the others are not looked at.
-#[test]
-fn the_first_file_of_a_name_counts(rt: HostRuntime) -> Result<(), Fail> {
-    let pool = with_added(rt.alloc(), SET_M, M_OF_EDITIONS)?;
-    assert!(rt; is_written_as(rt.alloc(), pool, SET_M)?);
-    let pool = pool_of(rt.alloc(), joined(rt.alloc(), SET_M, M_OF_EDITIONS)?)?;
-    assert!(rt; is_written_as(rt.alloc(), pool, SET_M)?);
-    Ok(())
+/// Whether the set makes no pool and is refused by this fault, also by the empty pool, to which it adds nothing.
+fn is_refused(alloc: Global, pool: &mut DescriptorPool, set: &[u8], fault: PoolError) -> bool {
+    DescriptorPool::decode(alloc, set).err() == Some(fault)
+        && pool.decode_file_descriptor_set(set) == Err(fault)
+        && pool.file_descriptor_protos().len() == 0
 }
 
-/// A file that has the message `Z` and no name.
-static NAMELESS: &[u8] = b"\x0a\x05\x22\x03\x0a\x01Z";
+/// A set, what comes behind it, and why both together are refused. A file without a name is looked at, also behind another one.
+static REFUSED: [(Set, Set, PoolError); 4] = [
+    (Set::SoundAndEditions, Set::Empty, PoolError::UnknownSyntax),
+    (Set::Empty, Set::Nameless, PoolError::MissingName),
+    (Set::M, Set::Nameless, PoolError::MissingName),
+    (Set::Nameless, Set::Nameless, PoolError::MissingName),
+];
 
-/// A file without a name is looked at, and refused, also behind another one.
-#[test]
-fn a_file_without_a_name_is_not_skipped(rt: HostRuntime) -> Result<(), Fail> {
-    for front in [b"".as_slice(), SET_M, NAMELESS] {
-        let bytes = joined(rt.alloc(), front, NAMELESS)?;
-        assert!(rt; refusal(rt.alloc(), bytes) == Some(PoolError::MissingName));
-    }
-    Ok(())
-}
+/// The place of a byte in `SET_M`, what it is changed to, and why the set is refused then.
+static CHANGES: [(usize, u8, PoolError); 3] = [
+    // The number of `foo` is that of `bar`.
+    (41, 0x02, PoolError::DuplicateNumber),
+    // No message has the name of the type of `nested`.
+    (96, b'f', PoolError::UnknownType),
+    (116, b'4', PoolError::UnknownSyntax),
+];
 
 /// The set with one byte changed.
 fn changed(alloc: Global, place: usize, byte: u8) -> Result<&'static Vec<u8>, AllocError> {
@@ -202,23 +248,25 @@ fn changed(alloc: Global, place: usize, byte: u8) -> Result<&'static Vec<u8>, Al
     Ok(bytes)
 }
 
-/// One changed byte, or a missing one, is refused by its own name, and adds nothing.
+/// A set with a fault, with one changed byte, or that ends early, in front of any of its parts, is refused by its own name.
 #[test]
-fn a_changed_byte_is_refused(rt: HostRuntime) -> Result<(), Fail> {
-    let rows = [
-        // The number of `foo` is that of `bar`.
-        (41, 0x02, PoolError::DuplicateNumber),
-        // No message has the name of the type of `nested`.
-        (96, b'f', PoolError::UnknownType),
-        (116, b'4', PoolError::UnknownSyntax),
-    ];
+fn a_refused_set_adds_nothing(rt: HostRuntime) -> Result<(), Fail> {
     let pool = leaked(rt.alloc(), DescriptorPool::new(rt.alloc())?)?;
-    for (place, byte, fault) in rows {
-        let set = changed(rt.alloc(), place, byte)?;
-        assert!(rt; adds_nothing(pool, set, fault), "{place}");
+    for (set, rest, fault) in REFUSED {
+        let bytes = joined(rt.alloc(), set.bytes(), rest.bytes())?;
+        assert!(rt; is_refused(rt.alloc(), pool, bytes, fault), "{fault}");
     }
-    let cut = PoolError::Decode(DecodeError::Truncated);
-    assert!(rt; adds_nothing(pool, &SET_M[..116], cut));
+    for (place, byte, fault) in CHANGES {
+        let bytes = changed(rt.alloc(), place, byte)?;
+        assert!(rt; is_refused(rt.alloc(), pool, bytes, fault), "{place}");
+    }
+    let truncated = PoolError::Decode(DecodeError::Truncated);
+    for len in 1..SET_M.len() {
+        assert!(rt;
+            is_refused(rt.alloc(), pool, &SET_M[..len], truncated),
+            "{len}"
+        );
+    }
     Ok(())
 }
 

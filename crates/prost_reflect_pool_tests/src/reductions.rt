@@ -1,7 +1,7 @@
 //! Which message types are reductions of which, and why others are none.
 
 use crate::named::{message_of, pool_of};
-use prost_reflect::DescriptorPool;
+use prost_reflect::MessageDescriptor;
 use std::alloc::Global;
 use std::test::Fail;
 
@@ -80,51 +80,32 @@ static ROWS: [(&str, &str, &str); 24] = [
     ("s.Extended", "s.Extended", ""),
 ];
 
-/// Whether the older type is a reduction of the newer one.
-fn is_reduction(
+/// Whether the older type is a reduction of the newer one exactly where the text is empty, and has otherwise the fault that is
+/// shown as the text.
+fn is_told(
     alloc: Global,
-    pool: &DescriptorPool,
-    older: &str,
-    newer: &str,
-) -> Result<bool, Fail> {
-    let older = message_of(alloc, pool, older)?;
-    Ok(older.is_reduction_of(message_of(alloc, pool, newer)?)?)
-}
-
-/// Whether the fault of the older type beside the newer one has the text, or there is none where it is empty.
-fn has_fault(
-    alloc: Global,
-    pool: &DescriptorPool,
-    older: &str,
-    newer: &str,
+    older: &MessageDescriptor,
+    newer: &MessageDescriptor,
     text: &str,
 ) -> Result<bool, Fail> {
-    let older = message_of(alloc, pool, older)?;
-    let newer = message_of(alloc, pool, newer)?;
+    if older.is_reduction_of(newer)? != text.is_empty() {
+        return Ok(false);
+    }
     match older.reduction_fault(newer)? {
         Some(fault) => Ok(format!(in alloc; "{fault}")?.as_str() == text),
         None => Ok(text.is_empty()),
     }
 }
 
+/// A type with fields left out is a reduction, and a fault names what differs.
 #[test]
-fn a_type_with_fields_left_out_is_a_reduction(rt: HostRuntime) -> Result<(), Fail> {
+fn reductions_are_told_from_others(rt: HostRuntime) -> Result<(), Fail> {
     let pool = pool_of(rt.alloc(), TYPES)?;
-    for (older, newer, fault) in &ROWS {
+    for (older, newer, text) in &ROWS {
+        let first = message_of(rt.alloc(), pool, older)?;
+        let second = message_of(rt.alloc(), pool, newer)?;
         assert!(rt;
-            is_reduction(rt.alloc(), pool, older, newer)? == fault.is_empty(),
-            "{older} {newer}"
-        );
-    }
-    Ok(())
-}
-
-#[test]
-fn a_fault_names_what_differs(rt: HostRuntime) -> Result<(), Fail> {
-    let pool = pool_of(rt.alloc(), TYPES)?;
-    for (older, newer, fault) in &ROWS {
-        assert!(rt;
-            has_fault(rt.alloc(), pool, older, newer, fault)?,
+            is_told(rt.alloc(), first, second, text)?,
             "{older} {newer}"
         );
     }

@@ -152,25 +152,20 @@ static LINES: [&str; 5] = [
 /// How many bytes all the lines are.
 const LENGTH: usize = 45001;
 
-#[test]
-fn the_schema_of_descriptor_sets_is_told(rt: HostRuntime) -> Result<(), Fail> {
-    let text = describe(rt.alloc(), pool_of(rt.alloc(), SCHEMA)?)?;
-    assert_eq!(rt; text.len(), LENGTH);
-    for line in LINES {
-        assert!(rt; text.contains(line), "{line}");
-    }
-    Ok(())
-}
-
 /// Whether the schema is relayed as it is, by the type of descriptor sets.
 fn relays_schema(alloc: Global, set: &MessageDescriptor) -> Result<bool, RelayError> {
     Ok(relay(alloc, set, SCHEMA)?.as_slice() == SCHEMA)
 }
 
-/// It is itself a message of the type that it defines for descriptor sets.
+/// It is told, and is itself a message of the type that it defines for descriptor sets.
 #[test]
-fn the_schema_of_descriptor_sets_relays_itself(rt: HostRuntime) -> Result<(), Fail> {
+fn the_schema_of_descriptor_sets_is_told_and_relays_itself(rt: HostRuntime) -> Result<(), Fail> {
     let pool = pool_of(rt.alloc(), SCHEMA)?;
+    let text = describe(rt.alloc(), pool)?;
+    assert_eq!(rt; text.len(), LENGTH);
+    for line in LINES {
+        assert!(rt; text.contains(line), "{line}");
+    }
     let set = message_of(rt.alloc(), pool, "google.protobuf.FileDescriptorSet")?;
     assert!(rt; relays_schema(rt.alloc(), set)?);
     Ok(())

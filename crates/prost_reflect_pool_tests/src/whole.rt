@@ -1,7 +1,7 @@
 //! All that the descriptors of a set say that has each sort of definition.
 
 use crate::describe::describe;
-use crate::named::{message_of, pool_of};
+use crate::named::message_of;
 use crate::schema::SCHEMA;
 use prost_reflect::DescriptorPool;
 use prost_reflect_samples::leaked;
@@ -126,34 +126,22 @@ static TEXT: &str = "\
     method w.x.S.Back path=6.0.2.1 index=1 input=Plain output=w.x.A.B.C client_streaming=false server_streaming=true\n\
 ";
 
-/// Whether the pool's descriptors say what the text does.
-fn is_told(alloc: Global, pool: &DescriptorPool) -> Result<bool, AllocError> {
-    Ok(describe(alloc, pool)? == TEXT)
+/// Whether the pool's descriptors say what the text does, and whether it has the file of the schema of descriptor sets.
+fn is_told(alloc: Global, pool: &DescriptorPool) -> Result<[bool; 2], AllocError> {
+    let is_told = describe(alloc, pool)? == TEXT;
+    let schema = pool.get_file_by_name("google/protobuf/descriptor.proto")?;
+    Ok([is_told, schema.is_some()])
 }
 
-#[test]
-fn each_sort_of_definition_is_told(rt: HostRuntime) -> Result<(), Fail> {
-    let pool = pool_of(rt.alloc(), WHOLE)?;
-    assert!(rt; is_told(rt.alloc(), pool)?);
-    Ok(())
-}
-
-/// Whether the pool has the file of the schema of descriptor sets.
-fn has_schema(pool: &DescriptorPool) -> Result<bool, AllocError> {
-    Ok(
-        pool.get_file_by_name("google/protobuf/descriptor.proto")?
-            .is_some(),
-    )
-}
-
-/// A descriptor that was made before an addition answers as before, and its pool tells what it told.
+/// Each sort of definition is told. A descriptor that was made before an addition answers as before, and its pool tells what it
+/// told.
 #[test]
 fn an_addition_changes_no_answer(rt: HostRuntime) -> Result<(), Fail> {
     let pool = leaked(rt.alloc(), DescriptorPool::decode(rt.alloc(), WHOLE)?)?;
+    assert!(rt; is_told(rt.alloc(), pool)? == [true, false]);
     let found = message_of(rt.alloc(), pool, "w.x.A")?;
     pool.decode_file_descriptor_set(SCHEMA)?;
-    assert!(rt; is_told(rt.alloc(), found.parent_pool())?);
-    assert!(rt; !has_schema(found.parent_pool())?);
-    assert!(rt; has_schema(pool)?);
+    assert!(rt; is_told(rt.alloc(), found.parent_pool())? == [true, false]);
+    assert!(rt; is_told(rt.alloc(), pool)? == [false, true]);
     Ok(())
 }

@@ -1,9 +1,9 @@
 //! What files are flattened to, and the tables and the catalog that are linked of them.
 
-use prost_reflect_linking::linked;
+use prost_reflect_linking::{linked, meanings, meanings_by_message};
 use prost_reflect_pool::build_tables;
 use prost_reflect_tables::{
-    Catalog, EnumTable, FieldTable, Flat, FlatMessage, Identity, MessageTable, Tables,
+    Catalog, EnumTable, FieldTable, Flat, FlatMessage, Identity, MessageTable, Resolved, Tables,
     all_resolved, flattened,
 };
 use prost_reflect_types::{FileDescriptorProto, Proto};
@@ -205,8 +205,21 @@ static FORMS: &[u8] =
 fn linked_proto2(rt: HostRuntime) -> Result<(), Fail> {
     let file = FileDescriptorProto::decode(rt.alloc(), FORMS)?;
     let flat = flattened(rt.alloc(), &[&file])?;
-    let resolved = all_resolved(rt.alloc(), &flat)?;
-    let (messages, enums) = linked(rt.alloc(), &flat, &resolved)?;
+    let Resolved {
+        entries,
+        fields,
+        extensions,
+        ..
+    } = all_resolved(rt.alloc(), &flat)?;
+    let fields = meanings_by_message(rt.alloc(), fields)?;
+    let extensions = meanings(rt.alloc(), extensions)?;
+    let (messages, enums) = linked(
+        rt.alloc(),
+        flat,
+        fields,
+        extensions.as_slice(),
+        entries.as_slice(),
+    )?;
     assert!(rt;
         shown(rt.alloc(), &messages, &enums)?.as_str()
             == "M false: 5 x Message(1) Optional extension true group true packed false presence true None None; 7 e Enum(0) Required extension false group false packed false presence true Some(EnumNumber(0)) None; 8 l Int32 Repeated extension false group false packed false presence false None None; 9 p Int32 Repeated extension false group false packed true presence false None None; Entry true: 1 key String Optional extension false group false packed false presence true None None; E 0 closed true; "

@@ -14,8 +14,6 @@ mod lengths;
 #[cfg(test)]
 mod like;
 #[cfg(test)]
-mod present;
-#[cfg(test)]
 mod setting;
 #[cfg(test)]
 mod shown;

@@ -1,55 +1,16 @@
 //! What is asked of fields and of extensions alike, through their trait.
 
-use crate::types::{
-    extension_at, field_at, kinds_extension, kinds_field, message_type, named_field,
-};
-use prost_reflect::{FieldDescriptor, FieldDescriptorLike, Kind, Value};
-use prost_reflect_samples::sets;
-use std::alloc::{AllocError, Global};
-use std::test::Fail;
+use crate::shown::{Shown, made};
+use crate::types::{CHOICES, T, Type, V, descriptor_of, extension_at, field_at, lent, named_field};
+use prost_reflect::{FieldDescriptorLike, Kind};
+use std::alloc::Global;
+use std::process::Abort;
 
 /// Whether it has presence, is a group, a list and a map, is packed, and may be.
-fn shape<F: FieldDescriptorLike>(field: &F) -> [bool; 6] {
-    [
-        field.supports_presence(),
-        field.is_group(),
-        field.is_list(),
-        field.is_map(),
-        field.is_packed(),
-        field.is_packable(),
-    ]
-}
-
-/// Whether this is the default, and it fits.
-fn has_default<F: FieldDescriptorLike>(
-    alloc: Global,
-    field: &F,
-    value: &Value,
-) -> Result<bool, AllocError> {
-    let default = field.default_value(alloc)?;
-    Ok(default == *value && field.is_default_value(value) && field.is_valid(value))
-}
-
-/// The name of its oneof, if it is a member of one.
-fn is_member_of<F: FieldDescriptorLike>(field: &F, name: &str) -> Result<bool, AllocError> {
-    match field.containing_oneof()? {
-        Some(oneof) => Ok(oneof.name() == name),
-        None => Ok(false),
-    }
-}
-
-/// Whether it has this number and this shape.
-fn is_shaped<F: FieldDescriptorLike>(field: &F, number: u32, expected: [bool; 6]) -> bool {
-    field.number() == number && shape(field) == expected
-}
-
-/// The field of a name of `T`, of the proto3 file of `forms`.
-fn forms_field(alloc: Global, name: &str) -> Result<&'static FieldDescriptor, Fail> {
-    named_field(alloc, message_type(alloc, sets::forms(), "T")?, name)
-}
+type Shape = [bool; 6];
 
 /// A field of `V`, its number and its shape.
-static SHAPES: &[(&str, u32, [bool; 6])] = &[
+static SHAPES: [(&str, u32, Shape); 6] = [
     ("f", 1, [true, false, false, false, false, true]),
     ("b", 2, [true, false, false, false, false, false]),
     ("values", 3, [false, false, true, false, false, true]),
@@ -58,61 +19,115 @@ static SHAPES: &[(&str, u32, [bool; 6])] = &[
     ("v", 7, [true, false, false, false, false, false]),
 ];
 
+/// Whether it has this number and this shape.
+fn is_shaped<F: FieldDescriptorLike>(field: &F, number: u32, expected: Shape) -> bool {
+    let shape = [
+        field.supports_presence(),
+        field.is_group(),
+        field.is_list(),
+        field.is_map(),
+        field.is_packed(),
+        field.is_packable(),
+    ];
+    field.number() == number && shape == expected
+}
+
+/// Whether it is of the kind.
+fn is_of<F: FieldDescriptorLike>(rt: &impl Abort, alloc: Global, field: &F, kind: Kind) -> bool {
+    let found = lent(rt, alloc, field.kind().expect(rt, "memory"));
+    *found == *lent(rt, alloc, kind)
+}
+
+/// Whether the extension of `V` and the packed field of `T` have their shapes, and are of their kinds.
+fn are_shaped(rt: &impl Abort, alloc: Global) -> [bool; 4] {
+    let extension = extension_at(rt, alloc, descriptor_of(rt, alloc, V), 100);
+    let packed = named_field(rt, alloc, descriptor_of(rt, alloc, T), "a");
+    [
+        is_shaped(extension, 100, [true, false, false, false, false, true]),
+        is_of(rt, alloc, extension, Kind::Sint64),
+        is_shaped(packed, 1, [false, false, true, false, true, true]),
+        is_of(rt, alloc, packed, Kind::Int32),
+    ]
+}
+
 #[test]
-fn fields_have_shapes(rt: HostRuntime) -> Result<(), Fail> {
-    for row in SHAPES {
-        let field = kinds_field(rt.alloc(), row.0)?;
-        assert!(rt; is_shaped(field, row.1, row.2), "of the field {}", row.0);
+fn fields_and_extensions_have_shapes(rt: HostRuntime) {
+    let alloc = rt.alloc();
+    let v = descriptor_of(&rt, alloc, V);
+    for (name, number, shape) in &SHAPES {
+        let field = named_field(&rt, alloc, v, name);
+        assert!(rt; is_shaped(field, *number, *shape), "of the field {name}");
     }
-    let packed = forms_field(rt.alloc(), "a")?;
-    assert!(rt; is_shaped(packed, 1, [false, false, true, false, true, true]));
-    assert!(rt; FieldDescriptorLike::kind(packed)? == Kind::Int32);
-    Ok(())
+    assert!(rt; are_shaped(&rt, alloc) == [true; 4]);
+}
+
+/// A message type, the number of a field or an extension of it, a value, and whether it is the default, fits, and is had where
+/// it is stored. With presence each value is had, and an extension has presence; without it the default is not had.
+static VALUES: [(Type, u32, Shown, [bool; 3]); 6] = [
+    (V, 1, Shown::F32(0x3f80_0000), [true, true, true]),
+    (V, 1, Shown::F32(0), [false, true, true]),
+    (V, 100, Shown::I64(-3), [true, true, true]),
+    (V, 100, Shown::I32(-3), [false, false, true]),
+    (T, 3, Shown::I32(0), [true, true, false]),
+    (T, 3, Shown::I32(1), [false, true, true]),
+];
+
+/// Whether the value is the default, fits, and is had where it is stored.
+fn takes<F: FieldDescriptorLike>(
+    rt: &impl Abort,
+    alloc: Global,
+    field: &F,
+    shown: Shown,
+) -> [bool; 3] {
+    let value = lent(rt, alloc, made(rt, alloc, shown));
+    let default = lent(rt, alloc, field.default_value(alloc).expect(rt, "memory"));
+    let is_default = *default == *value && field.is_default_value(value);
+    [is_default, field.is_valid(value), field.has(value)]
 }
 
 #[test]
-fn extensions_have_shapes(rt: HostRuntime) -> Result<(), Fail> {
-    let extension = kinds_extension(rt.alloc())?;
-    assert!(rt; is_shaped(extension, 100, [true, false, false, false, false, true]));
-    assert!(rt; FieldDescriptorLike::kind(extension)? == Kind::Sint64);
-    Ok(())
+fn fields_and_extensions_have_values(rt: HostRuntime) {
+    let alloc = rt.alloc();
+    for (owner, number, shown, expected) in &VALUES {
+        let descriptor = descriptor_of(&rt, alloc, *owner);
+        let found = if *number < 100 {
+            takes(
+                &rt,
+                alloc,
+                field_at(&rt, alloc, descriptor, *number),
+                *shown,
+            )
+        } else {
+            takes(
+                &rt,
+                alloc,
+                extension_at(&rt, alloc, descriptor, *number),
+                *shown,
+            )
+        };
+        assert!(rt; found == *expected, "{number}");
+    }
 }
 
-/// With presence each value is had.
-#[test]
-fn fields_with_presence_have_each_value(rt: HostRuntime) -> Result<(), Fail> {
-    let written = kinds_field(rt.alloc(), "f")?;
-    assert!(rt; has_default(rt.alloc(), written, &Value::F32(1_065_353_216))?);
-    assert!(rt; !has_default(rt.alloc(), written, &Value::F32(0))?);
-    assert!(rt; written.has(&Value::F32(1_065_353_216)));
-    Ok(())
+/// Whether it is a member of the oneof `first`.
+fn is_of_first<F: FieldDescriptorLike>(rt: &impl Abort, alloc: Global, field: &F) -> bool {
+    match lent(rt, alloc, field.containing_oneof().expect(rt, "memory")) {
+        Some(oneof) => oneof.name() == "first",
+        None => false,
+    }
 }
 
-/// An extension has presence.
-#[test]
-fn extensions_have_values(rt: HostRuntime) -> Result<(), Fail> {
-    let extension = kinds_extension(rt.alloc())?;
-    assert!(rt; has_default(rt.alloc(), extension, &Value::I64(-3))?);
-    assert!(rt; !extension.is_valid(&Value::I32(-3)));
-    assert!(rt; extension.has(&Value::I64(-3)));
-    Ok(())
-}
-
-/// Without presence the default is not had.
-#[test]
-fn fields_without_presence_have_no_default(rt: HostRuntime) -> Result<(), Fail> {
-    let plain = forms_field(rt.alloc(), "c")?;
-    assert!(rt; !plain.has(&Value::I32(0)));
-    assert!(rt; plain.has(&Value::I32(1)));
-    Ok(())
+/// Whether the fields 4 and 1 of `Choices` are members of the oneof `first`, and whether its extension is of no oneof.
+fn are_members(rt: &impl Abort, alloc: Global) -> [bool; 3] {
+    let choices = descriptor_of(rt, alloc, CHOICES);
+    let fourth = is_of_first(rt, alloc, field_at(rt, alloc, choices, 4));
+    let first = is_of_first(rt, alloc, field_at(rt, alloc, choices, 1));
+    let extension = extension_at(rt, alloc, choices, 12);
+    let oneof = FieldDescriptorLike::containing_oneof(extension).expect(rt, "memory");
+    [fourth, first, oneof.is_none()]
 }
 
 #[test]
-fn fields_alone_are_members_of_oneofs(rt: HostRuntime) -> Result<(), Fail> {
-    let choices = message_type(rt.alloc(), sets::choices(), "Choices")?;
-    assert!(rt; is_member_of(field_at(rt.alloc(), choices, 4)?, "first")?);
-    assert!(rt; !is_member_of(field_at(rt.alloc(), choices, 1)?, "first")?);
-    let extension = extension_at(rt.alloc(), choices, 12)?;
-    assert!(rt; FieldDescriptorLike::containing_oneof(extension)?.is_none());
-    Ok(())
+fn fields_alone_are_members_of_oneofs(rt: HostRuntime) {
+    assert!(rt; are_members(&rt, rt.alloc()) == [true, false, true]);
 }

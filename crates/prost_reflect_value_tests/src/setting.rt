@@ -1,207 +1,246 @@
 //! Setting fields to values that may not fit, and the texts of refusals.
 
-use crate::types::{decoded, is_decoded, own_field, text_of};
+use crate::shown::{Form, Shown, form_of};
+use crate::types::{C, MY_MESSAGE, Type, V, lent, lent_message, named_field};
 use prost_reflect::{DynamicMessage, FieldDescriptor, SetFieldError, Value};
-use prost_reflect_samples::{leaked, sets};
 use std::alloc::Global;
-use std::test::Fail;
+use std::process::Abort;
+
+/// How a field is found.
+#[derive(Clone, Copy)]
+pub(crate) enum Way {
+    Number(u32),
+    Name(&'static str),
+    /// By its descriptor, which the name finds.
+    Field(&'static str),
+}
 
 /// What a call that tries to set a field answers.
-type Outcome = Result<(), SetFieldError>;
-
-/// A field of `V`, and the text of the refusal of a value that does not fit it.
-static TEXTS: &[(&str, &str)] = &[
-    ("n", "expected a value of type 'int32'"),
-    ("values", "expected a value of type 'repeated int32'"),
-    ("m", "expected a value of type 'map<string, int32>'"),
-    ("e", "expected a value of type 'v.E'"),
-    ("v", "expected a value of type 'v.V'"),
-    ("b", "expected a value of type 'bytes'"),
-];
-
-/// A `V` of the bytes.
-fn of_kinds(alloc: Global, bytes: &[u8]) -> Result<&'static mut DynamicMessage, Fail> {
-    decoded(alloc, sets::kinds(), "v.V", bytes)
+#[derive(Clone, Copy)]
+pub(crate) enum Answer {
+    Taken,
+    NotFound,
+    /// The field of the name and the value are handed back, and the refusal reads so.
+    Refused(&'static str, &'static str),
 }
 
-/// A `MyMessage` of the bytes.
-fn of_newer(alloc: Global, bytes: &[u8]) -> Result<&'static mut DynamicMessage, Fail> {
-    decoded(alloc, sets::newer(), "package.MyMessage", bytes)
-}
-
-/// Whether the message is the `MyMessage` of the bytes.
-fn is_newer(alloc: Global, message: &DynamicMessage, bytes: &[u8]) -> Result<bool, Fail> {
-    is_decoded(alloc, message, sets::newer(), "package.MyMessage", bytes)
-}
-
-/// Whether the field of a name is set to the value, or why not.
+/// Sets the field to the value if it fits.
 fn outcome(
+    rt: &impl Abort,
     alloc: Global,
     message: &mut DynamicMessage,
-    name: &str,
+    way: Way,
     value: Value,
-) -> Result<&'static Outcome, Fail> {
-    let field = own_field(alloc, message, name)?;
-    if message.owns_field(field) {
-        Ok(leaked(alloc, message.try_set_field(field, value))?)
-    } else {
-        Err(Fail::from("a field of another type"))
+) -> Result<(), SetFieldError> {
+    match way {
+        Way::Number(number) => message.try_set_field_by_number(number, value),
+        Way::Name(name) => message.try_set_field_by_name(name, value),
+        Way::Field(name) => {
+            let descriptor = lent(rt, alloc, message.descriptor().expect(rt, "memory"));
+            let field = named_field(rt, alloc, descriptor, name);
+            assert!(rt; message.owns_field(field));
+            message.try_set_field(field, value)
+        }
+    }
+}
+
+/// Whether the field and the value are handed back.
+fn hands_back(refusal: &SetFieldError, wanted: &FieldDescriptor, sent: &Value) -> bool {
+    match refusal {
+        SetFieldError::InvalidType { field, value } => *field == *wanted && *value == *sent,
+        _ => false,
     }
 }
 
 /// Whether the refusal reads as this text, and a copy equals it.
-fn reads_as(alloc: Global, refusal: &SetFieldError, text: &str) -> Result<bool, Fail> {
-    Ok(format!(in alloc; "{refusal}")?.as_str() == text && refusal.clone()? == *refusal)
+fn reads_as(rt: &impl Abort, alloc: Global, refusal: &SetFieldError, text: &str) -> bool {
+    let copy = lent(rt, alloc, refusal.clone().expect(rt, "memory"));
+    let is_equal = *copy == *refusal;
+    let shown = format!(in alloc; "{refusal}").expect(rt, "memory");
+    shown.as_str() == text && is_equal
 }
 
-/// Whether the field of a name refuses the uint32 5 by this text.
-fn refuses_as(
+/// Whether the call that tries to set the field to the value answers so.
+pub(crate) fn answers(
+    rt: &impl Abort,
     alloc: Global,
     message: &mut DynamicMessage,
-    name: &str,
-    text: &str,
-) -> Result<bool, Fail> {
-    match outcome(alloc, message, name, Value::U32(5))? {
-        Ok(()) => Ok(false),
-        Err(refused) => reads_as(alloc, refused, text),
+    way: Way,
+    form: Form,
+    answer: Answer,
+) -> bool {
+    let sent = form_of(rt, alloc, form);
+    match (
+        lent(rt, alloc, outcome(rt, alloc, message, way, sent)),
+        answer,
+    ) {
+        (Ok(()), Answer::Taken) => true,
+        (Err(refusal), Answer::NotFound) => {
+            *refusal == SetFieldError::NotFound && reads_as(rt, alloc, refusal, "field not found")
+        }
+        (Err(refusal), Answer::Refused(name, text)) => {
+            let descriptor = lent(rt, alloc, message.descriptor().expect(rt, "memory"));
+            let wanted = named_field(rt, alloc, descriptor, name);
+            let sent = lent(rt, alloc, form_of(rt, alloc, form));
+            let copy = lent(rt, alloc, refusal.clone().expect(rt, "memory"));
+            reads_as(rt, alloc, refusal, text)
+                && hands_back(refusal, wanted, sent)
+                && hands_back(copy, wanted, sent)
+        }
+        _ => false,
     }
 }
 
+/// A message type, the bytes of a message of it, a field of it, a value, what the call answers that tries to set the field to
+/// the value, and the bytes of what the message is then.
+type Row = (Type, &'static [u8], Way, Shown, Answer, &'static [u8]);
+
+static ROWS: [Row; 16] = [
+    (
+        V,
+        b"",
+        Way::Field("n"),
+        Shown::U32(5),
+        Answer::Refused("n", "expected a value of type 'int32'"),
+        b"",
+    ),
+    (
+        V,
+        b"",
+        Way::Field("values"),
+        Shown::U32(5),
+        Answer::Refused("values", "expected a value of type 'repeated int32'"),
+        b"",
+    ),
+    (
+        V,
+        b"",
+        Way::Field("m"),
+        Shown::U32(5),
+        Answer::Refused("m", "expected a value of type 'map<string, int32>'"),
+        b"",
+    ),
+    (
+        V,
+        b"",
+        Way::Field("e"),
+        Shown::U32(5),
+        Answer::Refused("e", "expected a value of type 'v.E'"),
+        b"",
+    ),
+    (
+        V,
+        b"",
+        Way::Field("v"),
+        Shown::U32(5),
+        Answer::Refused("v", "expected a value of type 'v.V'"),
+        b"",
+    ),
+    (
+        V,
+        b"",
+        Way::Field("b"),
+        Shown::U32(5),
+        Answer::Refused("b", "expected a value of type 'bytes'"),
+        b"",
+    ),
+    (
+        C,
+        b"",
+        Way::Field("e"),
+        Shown::U32(5),
+        Answer::Refused("e", "expected a value of type 'E'"),
+        b"",
+    ),
+    // What fits is set, and stays where another value does not fit.
+    (
+        V,
+        b"",
+        Way::Field("n"),
+        Shown::I32(7),
+        Answer::Taken,
+        b"\x30\x07",
+    ),
+    (
+        V,
+        b"\x30\x07",
+        Way::Field("n"),
+        Shown::I64(8),
+        Answer::Refused("n", "expected a value of type 'int32'"),
+        b"\x30\x07",
+    ),
+    // The field `foo` has the number 1, and is 5.
+    (
+        MY_MESSAGE,
+        b"\x08\x05",
+        Way::Number(1),
+        Shown::Text("bar"),
+        Answer::Refused("foo", "expected a value of type 'int32'"),
+        b"\x08\x05",
+    ),
+    (
+        MY_MESSAGE,
+        b"\x08\x05",
+        Way::Name("foo"),
+        Shown::Text("bar"),
+        Answer::Refused("foo", "expected a value of type 'int32'"),
+        b"\x08\x05",
+    ),
+    (
+        MY_MESSAGE,
+        b"\x08\x05",
+        Way::Field("foo"),
+        Shown::Text("bar"),
+        Answer::Refused("foo", "expected a value of type 'int32'"),
+        b"\x08\x05",
+    ),
+    (
+        MY_MESSAGE,
+        b"\x08\x05",
+        Way::Number(42),
+        Shown::I32(5),
+        Answer::NotFound,
+        b"\x08\x05",
+    ),
+    (
+        MY_MESSAGE,
+        b"\x08\x05",
+        Way::Name("notfound"),
+        Shown::I32(5),
+        Answer::NotFound,
+        b"\x08\x05",
+    ),
+    (
+        MY_MESSAGE,
+        b"\x08\x05",
+        Way::Number(2),
+        Shown::I32(66),
+        Answer::Taken,
+        b"\x08\x05\x10\x42",
+    ),
+    (
+        MY_MESSAGE,
+        b"\x08\x05\x10\x42",
+        Way::Name("foo"),
+        Shown::I32(7),
+        Answer::Taken,
+        b"\x08\x07\x10\x42",
+    ),
+];
+
+/// Whether the call answers as the row says, and the message is then as it says.
+fn is_answered(rt: &impl Abort, alloc: Global, row: &Row) -> bool {
+    let (owner, before, way, shown, answer, behind) = *row;
+    let message = lent_message(rt, alloc, owner, before);
+    answers(rt, alloc, message, way, Form::One(shown), answer)
+        && *message == *lent_message(rt, alloc, owner, behind)
+}
+
 #[test]
-fn refusals_name_the_type(rt: HostRuntime) -> Result<(), Fail> {
+fn fields_are_set_to_what_fits(rt: HostRuntime) {
     let alloc = rt.alloc();
-    for row in TEXTS {
-        assert!(rt; refuses_as(alloc, of_kinds(alloc, &[])?, row.0, row.1)?);
+    for (place, row) in ROWS.iter().enumerate() {
+        assert!(rt; is_answered(&rt, alloc, row), "{place}");
     }
-    let c = decoded(alloc, sets::newer(), "C", &[])?;
-    assert!(rt; refuses_as(alloc, c, "e", "expected a value of type 'E'")?);
-    assert!(rt; reads_as(alloc, &SetFieldError::NotFound, "field not found")?);
-    assert!(rt; reads_as(alloc, &SetFieldError::OutOfMemory, "out of memory")?);
-    Ok(())
-}
-
-/// Whether the field of a name takes the value.
-fn is_set(
-    alloc: Global,
-    message: &mut DynamicMessage,
-    name: &str,
-    value: Value,
-) -> Result<bool, Fail> {
-    Ok(outcome(alloc, message, name, value)?.is_ok())
-}
-
-#[test]
-fn what_fits_is_set(rt: HostRuntime) -> Result<(), Fail> {
-    let message = of_kinds(rt.alloc(), &[])?;
-    assert!(rt; is_set(rt.alloc(), message, "n", Value::I32(7))?);
-    assert!(rt; !is_set(rt.alloc(), message, "n", Value::I64(8))?);
-    assert!(rt; is_decoded(rt.alloc(), message, sets::kinds(), "v.V", &[0x30, 7])?);
-    Ok(())
-}
-
-/// Whether the field and the number are handed back.
-fn hands_back(outcome: &Outcome, wanted: &FieldDescriptor, number: u32) -> bool {
-    match outcome {
-        Err(SetFieldError::InvalidType { field, value }) => {
-            *field == *wanted && value.as_u32() == Some(number)
-        }
-        _ => false,
-    }
-}
-
-/// Whether the field of a name hands back itself and the number, which does not fit it.
-fn is_handed_back(
-    alloc: Global,
-    message: &mut DynamicMessage,
-    name: &str,
-    number: u32,
-) -> Result<bool, Fail> {
-    let refused = outcome(alloc, message, name, Value::U32(number))?;
-    Ok(hands_back(refused, own_field(alloc, message, name)?, number))
-}
-
-#[test]
-fn what_does_not_fit_is_handed_back(rt: HostRuntime) -> Result<(), Fail> {
-    let message = of_kinds(rt.alloc(), &[])?;
-    assert!(rt; is_handed_back(rt.alloc(), message, "n", 5)?);
-    Ok(())
-}
-
-/// Whether the field `foo` and the text `bar` are handed back.
-fn is_of_foo(outcome: &Outcome) -> bool {
-    match outcome {
-        Err(SetFieldError::InvalidType { field, value }) => {
-            field.name() == "foo" && value.as_str() == Some("bar")
-        }
-        _ => false,
-    }
-}
-
-/// Whether the field of a number refuses the text `bar`, as `foo` does.
-fn number_refuses(alloc: Global, message: &mut DynamicMessage, number: u32) -> Result<bool, Fail> {
-    let bar = text_of(alloc, "bar")?;
-    Ok(is_of_foo(&message.try_set_field_by_number(number, bar)))
-}
-
-/// Whether the field of a name refuses the text `bar`, as `foo` does.
-fn name_refuses(alloc: Global, message: &mut DynamicMessage, name: &str) -> Result<bool, Fail> {
-    let bar = text_of(alloc, "bar")?;
-    Ok(is_of_foo(&message.try_set_field_by_name(name, bar)))
-}
-
-/// Whether the field that a name finds refuses the text `bar`, as `foo` does.
-fn field_refuses(alloc: Global, message: &mut DynamicMessage, name: &str) -> Result<bool, Fail> {
-    let bar = text_of(alloc, "bar")?;
-    Ok(is_of_foo(outcome(alloc, message, name, bar)?))
-}
-
-/// The field `foo` has the number 1, and is 5.
-#[test]
-fn what_does_not_fit_is_refused(rt: HostRuntime) -> Result<(), Fail> {
-    let message = of_newer(rt.alloc(), &[0x08, 5])?;
-    assert!(rt; number_refuses(rt.alloc(), message, 1)?);
-    assert!(rt; name_refuses(rt.alloc(), message, "foo")?);
-    assert!(rt; field_refuses(rt.alloc(), message, "foo")?);
-    assert!(rt; is_newer(rt.alloc(), message, &[0x08, 5])?);
-    Ok(())
-}
-
-/// Whether the field was not found.
-fn is_not_found(outcome: &Outcome) -> bool {
-    match outcome {
-        Ok(()) => false,
-        Err(refusal) => *refusal == SetFieldError::NotFound,
-    }
-}
-
-/// Whether no field is found of the number and of the name.
-fn finds_neither(message: &mut DynamicMessage, number: u32, name: &str) -> bool {
-    is_not_found(&message.try_set_field_by_number(number, Value::I32(5)))
-        && is_not_found(&message.try_set_field_by_name(name, Value::I32(5)))
-}
-
-#[test]
-fn a_number_or_a_name_of_no_field_is_not_found(rt: HostRuntime) -> Result<(), Fail> {
-    let message = of_newer(rt.alloc(), &[0x08, 5])?;
-    assert!(rt; finds_neither(message, 42, "notfound"));
-    assert!(rt; is_newer(rt.alloc(), message, &[0x08, 5])?);
-    Ok(())
-}
-
-/// Whether the fields of the number 2 and of the name `foo` take these values.
-fn takes_both(message: &mut DynamicMessage, second: i32, foo: i32) -> bool {
-    message
-        .try_set_field_by_number(2, Value::I32(second))
-        .is_ok()
-        && message
-            .try_set_field_by_name("foo", Value::I32(foo))
-            .is_ok()
-}
-
-#[test]
-fn what_fits_is_set_by_number_and_by_name(rt: HostRuntime) -> Result<(), Fail> {
-    let message = of_newer(rt.alloc(), &[0x08, 5])?;
-    assert!(rt; takes_both(message, 66, 7));
-    assert!(rt; is_newer(rt.alloc(), message, &[0x08, 7, 0x10, 66])?);
-    Ok(())
+    assert!(rt; reads_as(&rt, alloc, &SetFieldError::OutOfMemory, "out of memory"));
 }

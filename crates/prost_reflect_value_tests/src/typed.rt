@@ -1,209 +1,170 @@
 //! Whether messages may be encoded, and whether the messages inside are of their fields' types.
 
-use crate::types::{field_at, is_decoded, map_of, message_of, message_type, own_field, text_of};
+use crate::shown::{Shown, made, put};
+use crate::types::{
+    FOO, MY_MESSAGE, OLDER_MESSAGE, P, Q, Type, V, decoded, field_at, lent, lent_message,
+    named_field,
+};
 use prost_reflect::{DynamicMessage, MapKey, Value};
-use prost_reflect_samples::{leaked, sets};
+use prost_reflect_samples::leaked;
 use std::alloc::Global;
-use std::test::Fail;
+use std::collections::BTreeMap;
+use std::process::Abort;
 
-/// What both calls answer.
-fn asked(message: &DynamicMessage) -> (bool, bool) {
-    (message.is_encodable(), message.is_typed())
-}
+/// A message type, a field of it, and whether a value is put at the key 1 of a map there.
+type Holder = (Type, &'static str, bool);
 
-/// Writes the value at the field of a name, through a loan.
-fn put(alloc: Global, message: &mut DynamicMessage, name: &str, value: Value) -> Result<(), Fail> {
-    let field = own_field(alloc, message, name)?;
-    if message.owns_field(field) {
-        *message.get_field_mut(alloc, field)? = value;
-        Ok(())
-    } else {
-        Err(Fail::from("a field of another type"))
-    }
-}
+const IN_FOO: Holder = (MY_MESSAGE, "foo", false);
 
-/// The message that is read of the digits, by the type of a name.
-fn read(alloc: Global, set: &[u8], name: &str, digits: &str) -> Result<DynamicMessage, Fail> {
-    let bytes = leaked(alloc, hex::decode(alloc, digits)?)?;
-    message_of(alloc, message_type(alloc, set, name)?, bytes.as_slice())
-}
+const IN_NESTED: Holder = (MY_MESSAGE, "nested", false);
 
-/// The message that is read of the digits, by the type of a name in the newer set.
-fn read_newer(alloc: Global, name: &str, digits: &str) -> Result<DynamicMessage, Fail> {
-    read(alloc, sets::newer(), name, digits)
-}
+const IN_NUMBERS: Holder = (P, "m", true);
 
-/// An otherwise empty message of the type of a name in the newer set, with the value at the field of a name.
-fn holding(alloc: Global, name: &str, field: &str, value: Value) -> Result<DynamicMessage, Fail> {
-    let mut message = read_newer(alloc, name, "")?;
-    put(alloc, &mut message, field, value)?;
-    Ok(message)
-}
+const IN_MESSAGES: Holder = (P, "q", true);
 
-/// A `MyMessage` with the message in its field `nested`.
-fn around(alloc: Global, inner: DynamicMessage) -> Result<DynamicMessage, Fail> {
-    holding(alloc, "package.MyMessage", "nested", Value::Message(inner))
-}
+const AS_MESSAGES: Holder = (P, "q", false);
 
-/// A `MyMessage` whose int32 is a text.
-fn with_text(alloc: Global) -> Result<DynamicMessage, Fail> {
-    holding(alloc, "package.MyMessage", "foo", text_of(alloc, "x")?)
-}
+const IN_CLOSED: Holder = (V, "e", false);
 
-/// A `P` with the value at the key 1 of one of its maps.
-fn with_pair(alloc: Global, name: &str, value: Value) -> Result<DynamicMessage, Fail> {
-    holding(alloc, "P", name, map_of(alloc, MapKey::I32(1), value)?)
-}
+const TEXT: Shown = Shown::Text("x");
 
-/// Clears the field of the number 1.
-fn clear_first(alloc: Global, message: &mut DynamicMessage) -> Result<(), Fail> {
-    let first = field_at(alloc, leaked(alloc, message.descriptor()?)?, 1)?;
-    if message.owns_field(first) {
-        message.clear_field(first);
-        Ok(())
-    } else {
-        Err(Fail::from("a field of another type"))
-    }
-}
+const OWN: Shown = Shown::Message(MY_MESSAGE, b"\x08\x05");
 
-#[test]
-fn a_value_that_does_not_fit_is_found(rt: HostRuntime) -> Result<(), Fail> {
-    let message = leaked(rt.alloc(), with_text(rt.alloc())?)?;
-    assert!(rt; asked(message) == (false, true));
-    clear_first(rt.alloc(), message)?;
-    assert!(rt; asked(message) == (true, true));
-    Ok(())
-}
+const OTHER: Shown = Shown::Message(FOO, b"\x08\x01");
 
-#[test]
-fn a_value_that_does_not_fit_is_found_inside(rt: HostRuntime) -> Result<(), Fail> {
-    let outer = around(rt.alloc(), with_text(rt.alloc())?)?;
-    assert!(rt; asked(&outer) == (false, true));
-    Ok(())
-}
-
-/// A `MyMessage` with a message of another type in its field `nested`.
-fn around_another(alloc: Global) -> Result<DynamicMessage, Fail> {
-    around(alloc, read_newer(alloc, "Foo", "0801")?)
-}
-
-/// Whether the message may be written, and then as the digits.
-fn writes(alloc: Global, message: &DynamicMessage, digits: &str) -> Result<bool, Fail> {
-    if !message.is_encodable() {
-        return Ok(false);
-    }
-    let written = message.encode_to_vec(alloc)?;
-    Ok(hex::encode(alloc, written.as_slice())?.as_str() == digits)
-}
-
-/// A message is written by its own type.
-#[test]
-fn a_message_of_another_type_is_found(rt: HostRuntime) -> Result<(), Fail> {
-    let other = leaked(rt.alloc(), around_another(rt.alloc())?)?;
-    assert!(rt; asked(other) == (true, false));
-    assert!(rt; writes(rt.alloc(), other, "1a020801")?);
-    let outer = around(rt.alloc(), around_another(rt.alloc())?)?;
-    assert!(rt; asked(&outer) == (true, false));
-    Ok(())
-}
-
-/// What both calls answer of a `MyMessage` around one that is read by a set.
-fn asked_around(alloc: Global, set: &[u8]) -> Result<(bool, bool), Fail> {
-    Ok(asked(&around(alloc, read(alloc, set, "package.MyMessage", "1001")?)?))
-}
-
-/// Pools that are made of one set are equal; the older set has the type at the same place, and lacks a field.
-#[test]
-fn types_are_told_apart_by_their_pools(rt: HostRuntime) -> Result<(), Fail> {
-    assert!(rt; asked_around(rt.alloc(), sets::newer())? == (true, true));
-    assert!(rt; asked_around(rt.alloc(), sets::older())? == (true, false));
-    Ok(())
-}
-
-/// What both calls answer of a `P` with the value at the key 1 of one of its maps.
-fn asked_pair(alloc: Global, name: &str, value: Value) -> Result<(bool, bool), Fail> {
-    Ok(asked(&with_pair(alloc, name, value)?))
-}
-
-/// What both calls answer of a `P` with the message at the key 1 of its map of messages.
-fn asked_inside(alloc: Global, message: DynamicMessage) -> Result<(bool, bool), Fail> {
-    asked_pair(alloc, "q", Value::Message(message))
-}
-
-#[test]
-fn pairs_are_asked(rt: HostRuntime) -> Result<(), Fail> {
-    let alloc = rt.alloc();
-    assert!(rt; asked_pair(alloc, "m", Value::I32(1))? == (false, true));
-    assert!(rt;
-        asked_inside(alloc, read_newer(alloc, "package.MyMessage", "0805")?)? == (true, true)
-    );
-    assert!(rt; asked_inside(alloc, with_text(alloc)?)? == (false, true));
-    assert!(rt; asked_inside(alloc, read_newer(alloc, "Foo", "0801")?)? == (true, false));
-    Ok(())
-}
-
-/// Whether the message may be merged into, and then the bytes are merged into it.
-fn merges(message: &mut DynamicMessage, bytes: &[u8]) -> Result<bool, Fail> {
-    if !message.is_encodable() || !message.is_typed() {
-        return Ok(false);
-    }
-    message.merge(bytes)?;
-    Ok(true)
-}
-
-/// A message that was made by hand is merged into once both calls say that it may be.
-#[test]
-fn what_passes_is_merged_into(rt: HostRuntime) -> Result<(), Fail> {
-    let alloc = rt.alloc();
-    let inner = read_newer(alloc, "package.MyMessage", "0805")?;
-    let message = leaked(alloc, around(alloc, inner)?)?;
-    assert!(rt; merges(message, &[0x10, 1])?);
-    assert!(rt;
-        is_decoded(
-            alloc,
-            message,
-            sets::newer(),
-            "package.MyMessage",
-            &[0x1a, 2, 8, 5, 0x10, 1]
-        )?
-    );
-    Ok(())
-}
-
-/// A message by itself is no map.
-#[test]
-fn a_message_alone_in_a_map_field_is_of_no_type(rt: HostRuntime) -> Result<(), Fail> {
-    let inner = Value::Message(read_newer(rt.alloc(), "package.MyMessage", "0805")?);
-    let message = holding(rt.alloc(), "P", "q", inner)?;
-    assert!(rt; asked(&message) == (false, false));
-    Ok(())
-}
-
-/// The closed enum declares 1 and 0.
-#[test]
-fn an_undeclared_number_does_not_fit(rt: HostRuntime) -> Result<(), Fail> {
-    let message = leaked(rt.alloc(), read(rt.alloc(), sets::kinds(), "v.V", "")?)?;
-    put(rt.alloc(), message, "e", Value::EnumNumber(5))?;
-    assert!(rt; asked(message) == (false, true));
-    put(rt.alloc(), message, "e", Value::EnumNumber(1))?;
-    assert!(rt; asked(message) == (true, true));
-    Ok(())
-}
-
-/// A type of the newer set, and the digits of a message.
-static READ: [(&str, &str); 5] = [
-    ("package.MyMessage", "1a0208051a021042"),
-    ("package.MyMessage", "2801"),
-    ("Foo", "08010802"),
-    ("P", "0a050a016110011200"),
-    ("Q", "12021042"),
+/// A value, messages that hold it, each inside the next, and whether the last one may be encoded, and is typed.
+static ROWS: [(Shown, &[Holder], [bool; 2]); 19] = [
+    // A text in the place of a number.
+    (TEXT, &[IN_FOO], [false, true]),
+    (TEXT, &[IN_FOO, IN_NESTED], [false, true]),
+    (TEXT, &[IN_FOO, IN_MESSAGES], [false, true]),
+    // A message of another type.
+    (OTHER, &[IN_NESTED], [true, false]),
+    (OTHER, &[IN_NESTED, IN_NESTED], [true, false]),
+    (OTHER, &[IN_MESSAGES], [true, false]),
+    // Pools that are made of one set are equal; the older set has the type at the same place, and lacks a field.
+    (
+        Shown::Message(MY_MESSAGE, b"\x10\x01"),
+        &[IN_NESTED],
+        [true, true],
+    ),
+    (
+        Shown::Message(OLDER_MESSAGE, b"\x10\x01"),
+        &[IN_NESTED],
+        [true, false],
+    ),
+    (Shown::I32(1), &[IN_NUMBERS], [false, true]),
+    (OWN, &[IN_MESSAGES], [true, true]),
+    // A message by itself is no map.
+    (OWN, &[AS_MESSAGES], [false, false]),
+    // The closed enum declares 1 and 0.
+    (Shown::Number(5), &[IN_CLOSED], [false, true]),
+    (Shown::Number(1), &[IN_CLOSED], [true, true]),
+    // What is read is both.
+    (
+        Shown::Message(MY_MESSAGE, b"\x1a\x02\x08\x05\x1a\x02\x10\x42"),
+        &[],
+        [true, true],
+    ),
+    (Shown::Message(MY_MESSAGE, b"\x28\x01"), &[], [true, true]),
+    (Shown::Message(FOO, b"\x08\x01\x08\x02"), &[], [true, true]),
+    (
+        Shown::Message(P, b"\x0a\x05\x0a\x01\x61\x10\x01\x12\x00"),
+        &[],
+        [true, true],
+    ),
+    (Shown::Message(Q, b"\x12\x02\x10\x42"), &[], [true, true]),
+    (Shown::Message(V, b"\x28\x05\x28\x01"), &[], [true, true]),
 ];
 
-#[test]
-fn what_is_read_is_both(rt: HostRuntime) -> Result<(), Fail> {
-    for (name, digits) in READ {
-        assert!(rt; asked(&read_newer(rt.alloc(), name, digits)?) == (true, true));
+/// Writes the value at the field of a name, through a loan.
+fn write(rt: &impl Abort, alloc: Global, message: &mut DynamicMessage, name: &str, value: Value) {
+    let descriptor = lent(rt, alloc, message.descriptor().expect(rt, "memory"));
+    let field = named_field(rt, alloc, descriptor, name);
+    assert!(rt; message.owns_field(field));
+    match message.get_field_mut(alloc, field) {
+        Ok(place) => *place = value,
+        Err(_) => panic!(rt; "memory"),
     }
-    assert!(rt; asked(&read(rt.alloc(), sets::kinds(), "v.V", "28052801")?) == (true, true));
-    Ok(())
+}
+
+/// The value in a message of the holder.
+fn held_by(rt: &impl Abort, alloc: Global, holder: &Holder, value: Value) -> Value {
+    let (owner, name, is_pair) = *holder;
+    let mut message = decoded(rt, alloc, owner, b"");
+    if is_pair {
+        let mut pairs = BTreeMap::new(alloc);
+        put(rt, &mut pairs, MapKey::I32(1), value);
+        write(rt, alloc, &mut message, name, Value::Map(pairs));
+    } else {
+        write(rt, alloc, &mut message, name, value);
+    }
+    Value::Message(message)
+}
+
+/// The message that holds the value as the holders say, lent to the end of the run.
+fn held(
+    rt: &impl Abort,
+    alloc: Global,
+    shown: Shown,
+    holders: &[Holder],
+) -> &'static mut DynamicMessage {
+    let mut value = made(rt, alloc, shown);
+    for holder in holders {
+        value = held_by(rt, alloc, holder, value);
+    }
+    match value {
+        Value::Message(message) => leaked(alloc, message).expect(rt, "memory"),
+        _ => panic!(rt; "no message"),
+    }
+}
+
+/// What both calls answer.
+fn asked(message: &DynamicMessage) -> [bool; 2] {
+    [message.is_encodable(), message.is_typed()]
+}
+
+#[test]
+fn what_does_not_fit_is_found(rt: HostRuntime) {
+    for (place, (shown, holders, expected)) in ROWS.iter().enumerate() {
+        let message = held(&rt, rt.alloc(), *shown, holders);
+        assert!(rt; asked(message) == *expected, "{place}");
+    }
+}
+
+/// Whether a value that does not fit is found no more where one that fits takes its place, and where its field is cleared.
+fn is_mended(rt: &impl Abort, alloc: Global) -> bool {
+    let closed = held(rt, alloc, Shown::Number(5), &[IN_CLOSED]);
+    write(rt, alloc, closed, "e", Value::EnumNumber(1));
+    let message = held(rt, alloc, TEXT, &[IN_FOO]);
+    let descriptor = lent(rt, alloc, message.descriptor().expect(rt, "memory"));
+    let first = field_at(rt, alloc, descriptor, 1);
+    assert!(rt; message.owns_field(first));
+    message.clear_field(first);
+    asked(closed) == [true, true] && asked(message) == [true, true]
+}
+
+/// Whether a message with one of another type in it is written, by its own type.
+fn is_written(rt: &impl Abort, alloc: Global) -> bool {
+    let message = held(rt, alloc, OTHER, &[IN_NESTED]);
+    assert!(rt; message.is_encodable());
+    let written = lent(rt, alloc, message.encode_to_vec(alloc).expect(rt, "memory"));
+    written.as_slice() == b"\x1a\x02\x08\x01".as_slice()
+}
+
+/// Whether a message that was made by hand is merged into once both calls say that it may be.
+fn is_merged_into(rt: &impl Abort, alloc: Global) -> bool {
+    let message = held(rt, alloc, OWN, &[IN_NESTED]);
+    message.is_encodable()
+        && message.is_typed()
+        && message.merge(b"\x10\x01").is_ok()
+        && *message == *lent_message(rt, alloc, MY_MESSAGE, b"\x1a\x02\x08\x05\x10\x01")
+}
+
+#[test]
+fn what_is_held_is_mended_and_written_and_merged_into(rt: HostRuntime) {
+    let alloc = rt.alloc();
+    assert!(rt; is_mended(&rt, alloc));
+    assert!(rt; is_written(&rt, alloc));
+    assert!(rt; is_merged_into(&rt, alloc));
 }

@@ -1,172 +1,175 @@
-//! The types and values that these tests begin with.
+//! The types and messages that these tests begin with.
+//!
+//! What is missing, as memory or a name, ends the test at once, so no function here has a second way out; and what they hand
+//! out is lent to the end of the run, so their callers have nothing to drop.
 
 use prost_reflect::{
-    DescriptorPool, DynamicMessage, ExtensionDescriptor, FieldDescriptor, Kind, MapKey,
-    MessageDescriptor, Value,
+    DescriptorPool, DynamicMessage, ExtensionDescriptor, FieldDescriptor, MessageDescriptor,
+    builtin_pool,
 };
 use prost_reflect_samples::{leaked, sets};
-use std::alloc::{AllocError, Global};
-use std::collections::BTreeMap;
-use std::test::Fail;
+use std::alloc::Global;
+use std::process::Abort;
+
+/// A descriptor set of the samples, or that of the built-in types.
+#[derive(Clone, Copy)]
+enum Set {
+    Builtin,
+    Choices,
+    Every,
+    Forms,
+    Kinds,
+    Newer,
+    Older,
+}
+
+/// A message type: the set that it stands in, and its full name.
+#[derive(Clone, Copy)]
+pub(crate) struct Type {
+    set: Set,
+    name: &'static str,
+}
+
+pub(crate) const KEPT: Type = Type {
+    set: Set::Builtin,
+    name: "builtin.Kept",
+};
+
+pub(crate) const CHOICES: Type = Type {
+    set: Set::Choices,
+    name: "Choices",
+};
+
+pub(crate) const EVERY: Type = Type {
+    set: Set::Every,
+    name: "e.Every",
+};
+
+pub(crate) const T: Type = Type {
+    set: Set::Forms,
+    name: "T",
+};
+
+pub(crate) const V: Type = Type {
+    set: Set::Kinds,
+    name: "v.V",
+};
+
+pub(crate) const ENTRY: Type = Type {
+    set: Set::Kinds,
+    name: "v.V.MEntry",
+};
+
+pub(crate) const W: Type = Type {
+    set: Set::Kinds,
+    name: "o.W",
+};
+
+pub(crate) const MY_MESSAGE: Type = Type {
+    set: Set::Newer,
+    name: "package.MyMessage",
+};
+
+pub(crate) const P: Type = Type {
+    set: Set::Newer,
+    name: "P",
+};
+
+pub(crate) const Q: Type = Type {
+    set: Set::Newer,
+    name: "Q",
+};
+
+pub(crate) const FOO: Type = Type {
+    set: Set::Newer,
+    name: "Foo",
+};
+
+pub(crate) const C: Type = Type {
+    set: Set::Newer,
+    name: "C",
+};
+
+pub(crate) const OLDER_MESSAGE: Type = Type {
+    set: Set::Older,
+    name: "package.MyMessage",
+};
+
+/// The value, lent to the end of the run.
+pub(crate) fn lent<'a, T: Drop + 'a>(rt: &impl Abort, alloc: Global, value: T) -> &'a T {
+    leaked(alloc, value).expect(rt, "memory")
+}
 
 /// The pool of a descriptor set.
-pub(crate) fn pool_of(alloc: Global, set: &[u8]) -> Result<&'static DescriptorPool, Fail> {
-    Ok(leaked(alloc, DescriptorPool::decode(alloc, set)?)?)
+fn pool_of(rt: &impl Abort, alloc: Global, set: Set) -> DescriptorPool {
+    let bytes = match set {
+        Set::Builtin => return builtin_pool(alloc).expect(rt, "memory"),
+        Set::Choices => sets::choices(),
+        Set::Every => sets::every(),
+        Set::Forms => sets::forms(),
+        Set::Kinds => sets::kinds(),
+        Set::Newer => sets::newer(),
+        Set::Older => sets::older(),
+    };
+    DescriptorPool::decode(alloc, bytes).expect(rt, "a pool")
 }
 
-/// The message type of a full name in a pool.
-pub(crate) fn named_type(
+/// The descriptor of a message type.
+pub(crate) fn descriptor_of(
+    rt: &impl Abort,
     alloc: Global,
-    pool: &DescriptorPool,
-    name: &str,
-) -> Result<&'static MessageDescriptor, Fail> {
-    let found = pool.get_message_by_name(name)?;
-    Ok(leaked(alloc, found.ok_or("no such message type")?)?)
-}
-
-/// The message type of a name in a descriptor set.
-pub(crate) fn message_type(
-    alloc: Global,
-    set: &[u8],
-    name: &str,
-) -> Result<&'static MessageDescriptor, Fail> {
-    named_type(alloc, pool_of(alloc, set)?, name)
+    owner: Type,
+) -> &'static MessageDescriptor {
+    let pool = lent(rt, alloc, pool_of(rt, alloc, owner.set));
+    let found = pool.get_message_by_name(owner.name).expect(rt, "memory");
+    lent(rt, alloc, found.expect(rt, "a message type"))
 }
 
 /// The message that the bytes mean to a message type.
-pub(crate) fn message_of(
-    alloc: Global,
-    descriptor: &MessageDescriptor,
-    bytes: &[u8],
-) -> Result<DynamicMessage, Fail> {
-    Ok(DynamicMessage::decode(alloc, descriptor.clone()?, bytes)?)
+pub(crate) fn decoded(rt: &impl Abort, alloc: Global, owner: Type, bytes: &[u8]) -> DynamicMessage {
+    let descriptor = descriptor_of(rt, alloc, owner).clone().expect(rt, "memory");
+    DynamicMessage::decode(alloc, descriptor, bytes).expect(rt, "a message")
 }
 
-/// The message that the bytes mean to the type of a name in a descriptor set.
-pub(crate) fn decoded(
+/// The message that the bytes mean to a message type, lent to the end of the run.
+pub(crate) fn lent_message(
+    rt: &impl Abort,
     alloc: Global,
-    set: &[u8],
-    name: &str,
+    owner: Type,
     bytes: &[u8],
-) -> Result<&'static mut DynamicMessage, Fail> {
-    let descriptor = message_type(alloc, set, name)?;
-    Ok(leaked(alloc, message_of(alloc, descriptor, bytes)?)?)
-}
-
-/// Whether the message is the one that the bytes mean to the type of a name in a descriptor set.
-pub(crate) fn is_decoded(
-    alloc: Global,
-    message: &DynamicMessage,
-    set: &[u8],
-    name: &str,
-    bytes: &[u8],
-) -> Result<bool, Fail> {
-    Ok(*message == *decoded(alloc, set, name, bytes)?)
-}
-
-/// The message that the bytes mean to the type of a full name in a pool, as a value.
-pub(crate) fn message_value(
-    alloc: Global,
-    pool: &DescriptorPool,
-    name: &str,
-    bytes: &[u8],
-) -> Result<Value, Fail> {
-    let descriptor = named_type(alloc, pool, name)?;
-    Ok(Value::Message(message_of(alloc, descriptor, bytes)?))
+) -> &'static mut DynamicMessage {
+    leaked(alloc, decoded(rt, alloc, owner, bytes)).expect(rt, "memory")
 }
 
 /// The field of a name of a message type.
 pub(crate) fn named_field(
+    rt: &impl Abort,
     alloc: Global,
     descriptor: &MessageDescriptor,
     name: &str,
-) -> Result<&'static FieldDescriptor, Fail> {
-    let found = descriptor.get_field_by_name(name)?;
-    Ok(leaked(alloc, found.ok_or("no such field")?)?)
+) -> &'static FieldDescriptor {
+    let found = descriptor.get_field_by_name(name).expect(rt, "memory");
+    lent(rt, alloc, found.expect(rt, "a field"))
 }
 
 /// The field of a number of a message type.
 pub(crate) fn field_at(
+    rt: &impl Abort,
     alloc: Global,
     descriptor: &MessageDescriptor,
     number: u32,
-) -> Result<&'static FieldDescriptor, Fail> {
-    let found = descriptor.get_field(number)?;
-    Ok(leaked(alloc, found.ok_or("no such field")?)?)
+) -> &'static FieldDescriptor {
+    let found = descriptor.get_field(number).expect(rt, "memory");
+    lent(rt, alloc, found.expect(rt, "a field"))
 }
 
 /// The extension of a number of a message type.
 pub(crate) fn extension_at(
+    rt: &impl Abort,
     alloc: Global,
     descriptor: &MessageDescriptor,
     number: u32,
-) -> Result<&'static ExtensionDescriptor, Fail> {
-    let found = descriptor.get_extension(number)?;
-    Ok(leaked(alloc, found.ok_or("no such extension")?)?)
-}
-
-/// The kind of a field.
-pub(crate) fn kind_of(alloc: Global, field: &FieldDescriptor) -> Result<&'static Kind, Fail> {
-    Ok(leaked(alloc, field.kind()?)?)
-}
-
-/// The field of a name of the message's own type.
-pub(crate) fn own_field(
-    alloc: Global,
-    message: &DynamicMessage,
-    name: &str,
-) -> Result<&'static FieldDescriptor, Fail> {
-    named_field(alloc, leaked(alloc, message.descriptor()?)?, name)
-}
-
-/// The descriptor of `V`.
-pub(crate) fn kinds_type(alloc: Global) -> Result<&'static MessageDescriptor, Fail> {
-    message_type(alloc, sets::kinds(), "v.V")
-}
-
-/// The field of a name of `V`.
-pub(crate) fn kinds_field(alloc: Global, name: &str) -> Result<&'static FieldDescriptor, Fail> {
-    named_field(alloc, kinds_type(alloc)?, name)
-}
-
-/// The kind of the field of a name of `V`.
-pub(crate) fn kinds_kind(alloc: Global, name: &str) -> Result<&'static Kind, Fail> {
-    kind_of(alloc, kinds_field(alloc, name)?)
-}
-
-/// The extension of the number 100 of `V`.
-pub(crate) fn kinds_extension(alloc: Global) -> Result<&'static ExtensionDescriptor, Fail> {
-    extension_at(alloc, kinds_type(alloc)?, 100)
-}
-
-/// A text, as a value.
-pub(crate) fn text_of(alloc: Global, text: &str) -> Result<Value, AllocError> {
-    Ok(Value::String(String::from_str(alloc, text)?))
-}
-
-/// A text, as a key.
-pub(crate) fn text_key(alloc: Global, text: &str) -> Result<MapKey, AllocError> {
-    Ok(MapKey::String(String::from_str(alloc, text)?))
-}
-
-/// Puts the value at the key of a map.
-pub(crate) fn insert(
-    pairs: &mut BTreeMap<MapKey, Value>,
-    key: MapKey,
-    value: Value,
-) -> Result<(), AllocError> {
-    drop(pairs.insert(key, value)?);
-    Ok(())
-}
-
-/// A map with the value at the key.
-pub(crate) fn map_of(alloc: Global, key: MapKey, value: Value) -> Result<Value, AllocError> {
-    let mut pairs = BTreeMap::new(alloc);
-    insert(&mut pairs, key, value)?;
-    Ok(Value::Map(pairs))
-}
-
-/// Whether the value is equal to its copy.
-pub(crate) fn equals_its_copy(value: &Value) -> Result<bool, AllocError> {
-    Ok(*value == value.clone()?)
+) -> &'static ExtensionDescriptor {
+    let found = descriptor.get_extension(number).expect(rt, "memory");
+    lent(rt, alloc, found.expect(rt, "an extension"))
 }

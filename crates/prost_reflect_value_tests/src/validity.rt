@@ -1,109 +1,77 @@
 //! Which values fields, kinds and extensions take.
 
-use crate::types::{
-    kinds_extension, kinds_field, kinds_kind, map_of, message_value, pool_of, text_key,
-};
+use crate::shown::{Form, Shown, form_of};
+use crate::types::{ENTRY, V, W, descriptor_of, extension_at, field_at, lent, named_field};
 use prost_reflect::{Kind, MapKey, Value};
-use prost_reflect_samples::{leaked, sets};
 use std::alloc::Global;
-use std::collections::BTreeMap;
-use std::test::Fail;
+use std::process::Abort;
 
-/// A list of the value.
-fn list_of(alloc: Global, value: Value) -> Result<Value, Fail> {
-    Ok(Value::List(vec![in alloc; value]?))
-}
-
-/// A map with the value at the text `k`.
-fn text_map_of(alloc: Global, value: Value) -> Result<Value, Fail> {
-    Ok(map_of(alloc, text_key(alloc, "k")?, value)?)
-}
-
-/// An empty message of the type of a name.
-fn empty(alloc: Global, name: &str) -> Result<Value, Fail> {
-    message_value(alloc, pool_of(alloc, sets::kinds())?, name, b"")
-}
-
-/// The value that a word of the rows stands for.
-fn sample(alloc: Global, word: &str) -> Result<Value, Fail> {
-    match word {
-        "no items" => Ok(Value::List(Vec::new(alloc))),
-        "i32 items" => list_of(alloc, Value::I32(1)),
-        "u32 items" => list_of(alloc, Value::U32(1)),
-        "no pairs" => Ok(Value::Map(BTreeMap::new(alloc))),
-        "string to i32" => text_map_of(alloc, Value::I32(1)),
-        "string to i64" => text_map_of(alloc, Value::I64(1)),
-        "i32 to i32" => Ok(map_of(alloc, MapKey::I32(1), Value::I32(1))?),
-        "an entry" => empty(alloc, "v.V.MEntry"),
-        "a message" => empty(alloc, "o.W"),
-        "number 0" => Ok(Value::EnumNumber(0)),
-        "number 7" => Ok(Value::EnumNumber(7)),
-        "i32" => Ok(Value::I32(1)),
-        "f32" => Ok(Value::F32(1)),
-        _ => Err(Fail::from("no such sample")),
-    }
-}
-
-/// A field, a value, and whether the field takes it.
-static ROWS: &[(&str, &str, bool)] = &[
-    ("values", "i32 items", true),
-    ("values", "no items", true),
-    ("values", "i32", false),
-    ("values", "u32 items", false),
-    ("values", "no pairs", false),
-    ("m", "string to i32", true),
-    ("m", "no pairs", true),
-    ("m", "an entry", false),
-    ("m", "i32 to i32", false),
-    ("m", "string to i64", false),
-    ("m", "no items", false),
-    ("e", "number 0", true),
-    ("e", "number 7", false),
-    ("open", "number 7", true),
-    ("n", "i32", true),
-    ("n", "number 0", false),
-    ("n", "i32 items", false),
-    ("v", "a message", true),
-    ("v", "i32", false),
-    ("f", "f32", true),
-    ("f", "i32", false),
+/// A field of `V`, a value, and whether the field takes it.
+static ROWS: [(&str, Form, bool); 21] = [
+    ("values", Form::List(0, &[Shown::I32(1)]), true),
+    ("values", Form::One(Shown::NoItems), true),
+    ("values", Form::One(Shown::I32(1)), false),
+    ("values", Form::List(0, &[Shown::U32(1)]), false),
+    ("values", Form::One(Shown::NoPairs), false),
+    ("m", Form::Map(&[(Shown::Text("k"), Shown::I32(1))]), true),
+    ("m", Form::One(Shown::NoPairs), true),
+    ("m", Form::One(Shown::Message(ENTRY, b"")), false),
+    ("m", Form::Map(&[(Shown::I32(1), Shown::I32(1))]), false),
+    ("m", Form::Map(&[(Shown::Text("k"), Shown::I64(1))]), false),
+    ("m", Form::One(Shown::NoItems), false),
+    ("e", Form::One(Shown::Number(0)), true),
+    ("e", Form::One(Shown::Number(7)), false),
+    ("open", Form::One(Shown::Number(7)), true),
+    ("n", Form::One(Shown::I32(1)), true),
+    ("n", Form::One(Shown::Number(0)), false),
+    ("n", Form::List(0, &[Shown::I32(1)]), false),
+    ("v", Form::One(Shown::Message(W, b"")), true),
+    ("v", Form::One(Shown::I32(1)), false),
+    ("f", Form::One(Shown::F32(1)), true),
+    ("f", Form::One(Shown::I32(1)), false),
 ];
 
-/// Whether the field of a name of `V` takes the value of a word.
-fn field_takes(alloc: Global, name: &str, word: &str) -> Result<bool, Fail> {
-    let value = leaked(alloc, sample(alloc, word)?)?;
-    Ok(value.is_valid_for_field(kinds_field(alloc, name)?))
+/// Whether the field of a name of `V` takes the value of the form.
+fn takes(rt: &impl Abort, alloc: Global, name: &str, form: Form) -> bool {
+    let field = named_field(rt, alloc, descriptor_of(rt, alloc, V), name);
+    lent(rt, alloc, form_of(rt, alloc, form)).is_valid_for_field(field)
 }
 
 #[test]
-fn fields_take_what_fits(rt: HostRuntime) -> Result<(), Fail> {
-    for row in ROWS {
-        assert!(rt; field_takes(rt.alloc(), row.0, row.1)? == row.2);
+fn fields_take_what_fits(rt: HostRuntime) {
+    for (place, (name, form, is_taken)) in ROWS.iter().enumerate() {
+        assert!(rt;
+            takes(&rt, rt.alloc(), name, *form) == *is_taken,
+            "{name}: the row {place}"
+        );
     }
-    Ok(())
 }
 
-/// Whether the kind of the closed enum takes the number.
-fn enum_takes(alloc: Global, number: i32) -> Result<bool, Fail> {
-    Ok(Value::EnumNumber(number).is_valid(kinds_kind(alloc, "e")?))
+/// A list of an int32.
+static LIST: Form = Form::List(0, &[Shown::I32(1)]);
+
+/// A value of one kind, by that kind alone: the enum is closed and has no number 7, and the extension is of sint64.
+fn found_values(rt: &impl Abort, alloc: Global) -> [bool; 4] {
+    let v = descriptor_of(rt, alloc, V);
+    let closed = field_at(rt, alloc, v, 5).kind().expect(rt, "memory");
+    let seven = lent(rt, alloc, Value::EnumNumber(7)).is_valid(lent(rt, alloc, closed));
+    let extension = extension_at(rt, alloc, v, 100);
+    let long = lent(rt, alloc, Value::I64(1)).is_valid_for_extension(extension);
+    let short = lent(rt, alloc, Value::I32(1)).is_valid_for_extension(extension);
+    let list = lent(rt, alloc, form_of(rt, alloc, LIST)).is_valid(&Kind::Int32);
+    [seven, long, short, list]
 }
 
 /// A value of one kind, by that kind alone.
-#[test]
-fn kinds_take_what_fits(rt: HostRuntime) -> Result<(), Fail> {
-    assert!(rt; Value::I32(1).is_valid(&Kind::Sfixed32));
-    assert!(rt; MapKey::Bool(true).is_valid(&Kind::Bool));
-    assert!(rt; !MapKey::I32(1).is_valid(&Kind::String));
-    assert!(rt; !enum_takes(rt.alloc(), 7)?);
-    assert!(rt; !list_of(rt.alloc(), Value::I32(1))?.is_valid(&Kind::Int32));
-    Ok(())
+fn written_values() -> [bool; 3] {
+    let number = Value::I32(1).is_valid(&Kind::Sfixed32);
+    let flag = MapKey::Bool(true).is_valid(&Kind::Bool);
+    let other = MapKey::I32(1).is_valid(&Kind::String);
+    [number, flag, other]
 }
 
-/// The extension is of sint64.
 #[test]
-fn extensions_take_what_fits(rt: HostRuntime) -> Result<(), Fail> {
-    let extension = kinds_extension(rt.alloc())?;
-    assert!(rt; Value::I64(1).is_valid_for_extension(extension));
-    assert!(rt; !Value::I32(1).is_valid_for_extension(extension));
-    Ok(())
+fn kinds_and_extensions_take_what_fits(rt: HostRuntime) {
+    assert!(rt; found_values(&rt, rt.alloc()) == [false, true, false, false]);
+    assert!(rt; written_values() == [true, true, false]);
 }

@@ -1,113 +1,30 @@
 //! A field and an extension of each kind, merged, listed, asked, taken, set and lent.
 
-use crate::fields::types::message_type;
-use prost_reflect::{
-    DynamicMessage, ExtensionDescriptor, FieldDescriptor, MessageDescriptor, Present, Value,
-};
+use crate::fields::types::{lent, message_type};
+use crate::fields::ways::{Named, has, lends, shows, take, takes};
+use prost_reflect::{DynamicMessage, MessageDescriptor, Present, Value};
 use prost_reflect_samples::every::{Row, extensions, fields};
 use prost_reflect_samples::{leaked, sets};
 use std::alloc::{AllocError, Global};
-use std::borrow::Cow;
 use std::test::Fail;
 
-/// Whether the value is lent, and is this one.
-fn is_lent(found: &Option<Cow<'_, Value>>, value: &Value) -> bool {
-    match found {
-        Some(Cow::Borrowed(found)) => **found == *value,
-        _ => false,
-    }
-}
-
-/// Whether the field of the number is had and shown, and is taken, set and lent by its number.
-fn goes_by_number(
+/// Whether the field or the extension is had, taken, set, shown and lent.
+fn goes(
     alloc: Global,
     whole: &DynamicMessage,
     empty: &DynamicMessage,
-    number: u32,
+    named: Named<'_>,
 ) -> Result<bool, Fail> {
     let message = leaked(alloc, whole.clone()?)?;
-    let had = message.has_field_by_number(number);
-    let Some(value) = message.take_field_by_number(number) else {
+    let had = has(message, named);
+    let Some(value) = take(message, named) else {
         return Ok(false);
     };
     let value: &Value = leaked(alloc, value)?;
-    let is_taken = *message == *empty && !message.has_field_by_number(number);
-    message.try_set_field_by_number(number, value.clone()?)?;
-    let is_set = *message == *whole && is_lent(&message.get_field_by_number(alloc, number)?, value);
-    Ok(had && is_taken && is_set && *message.get_field_by_number_mut(alloc, number)? == *value)
-}
-
-/// Whether the field of the name is had and shown, and is taken, set and lent by its name.
-fn goes_by_name(
-    alloc: Global,
-    whole: &DynamicMessage,
-    empty: &DynamicMessage,
-    name: &str,
-) -> Result<bool, Fail> {
-    let message = leaked(alloc, whole.clone()?)?;
-    let had = message.has_field_by_name(name);
-    let Some(value) = message.take_field_by_name(name) else {
-        return Ok(false);
-    };
-    let value: &Value = leaked(alloc, value)?;
-    let is_taken = *message == *empty && !message.has_field_by_name(name);
-    message.try_set_field_by_name(name, value.clone()?)?;
-    let is_set = *message == *whole && is_lent(&message.get_field_by_name(alloc, name)?, value);
-    Ok(had && is_taken && is_set && *message.get_field_by_name_mut(alloc, name)? == *value)
-}
-
-/// Whether the field is had and shown, and is taken, set and lent by its descriptor.
-fn goes_by_descriptor(
-    alloc: Global,
-    whole: &DynamicMessage,
-    empty: &DynamicMessage,
-    field: &FieldDescriptor,
-) -> Result<bool, Fail> {
-    let message = leaked(alloc, whole.clone()?)?;
-    if !message.owns_field(field) || !message.has_field(field) {
-        return Ok(false);
-    }
-    let Some(value) = message.take_field(field) else {
-        return Ok(false);
-    };
-    let value: &Value = leaked(alloc, value)?;
-    let is_taken = *message == *empty && !message.has_field(field);
-    message.try_set_field(field, value.clone()?)?;
-    let is_set = *message == *whole && *message.get_field(alloc, field)? == *value;
-    Ok(is_taken && is_set && *message.get_field_mut(alloc, field)? == *value)
-}
-
-/// Whether the message lends the value of its extension for writing.
-fn lends(
-    alloc: Global,
-    message: &mut DynamicMessage,
-    extension: &ExtensionDescriptor,
-    value: &Value,
-) -> Result<bool, Fail> {
-    Ok(message.owns_extension(extension) && *message.get_extension_mut(alloc, extension)? == *value)
-}
-
-/// Whether the extension is had and shown, and is taken, set and lent.
-fn goes_by_extension(
-    alloc: Global,
-    whole: &DynamicMessage,
-    empty: &DynamicMessage,
-    extension: &ExtensionDescriptor,
-) -> Result<bool, Fail> {
-    let message = leaked(alloc, whole.clone()?)?;
-    if !message.owns_extension(extension) || !message.has_extension(extension) {
-        return Ok(false);
-    }
-    let Some(value) = message.take_extension(extension) else {
-        return Ok(false);
-    };
-    let value: &Value = leaked(alloc, value)?;
-    let is_taken = *message == *empty && !message.has_extension(extension);
-    if value.is_valid_for_extension(extension) {
-        message.set_extension(extension, value.clone()?)?;
-    }
-    let is_set = *message == *whole && *message.get_extension(alloc, extension)? == *value;
-    Ok(is_taken && is_set && lends(alloc, message, extension, value)?)
+    let is_taken = *message == *empty && !has(message, named);
+    let is_set = takes(message, named, value)? && *message == *whole;
+    let is_shown = shows(alloc, message, named, value, true)?;
+    Ok(had && is_taken && is_set && is_shown && lends(alloc, message, named, value, value)?)
 }
 
 /// Whether the bytes are merged into a new message of the type as the whole one.
@@ -187,46 +104,42 @@ fn goes_alone(
     )
 }
 
-/// Whether the row's field goes in each way.
-fn field_goes(alloc: Global, every: &MessageDescriptor, row: &Row) -> Result<bool, Fail> {
+/// Whether the row's field goes in each way, or its extension.
+fn row_goes(alloc: Global, every: &MessageDescriptor, row: &Row) -> Result<bool, Fail> {
     let whole = leaked(alloc, DynamicMessage::decode(alloc, every.clone()?, row.1)?)?;
     let empty = leaked(alloc, DynamicMessage::new(alloc, every.clone()?))?;
-    let found = every.get_field(row.0)?.ok_or("no such field")?;
-    let field = leaked(alloc, found)?;
-    Ok(
-        goes_alone(alloc, every, whole, empty, row)?
-            && goes_by_number(alloc, whole, empty, row.0)?
-            && goes_by_name(alloc, whole, empty, field.name())?
-            && goes_by_descriptor(alloc, whole, empty, field)?,
-    )
-}
-
-/// Whether the row's extension goes so.
-fn extension_goes(alloc: Global, every: &MessageDescriptor, row: &Row) -> Result<bool, Fail> {
-    let whole = leaked(alloc, DynamicMessage::decode(alloc, every.clone()?, row.1)?)?;
-    let empty = leaked(alloc, DynamicMessage::new(alloc, every.clone()?))?;
-    let found = every.get_extension(row.0)?.ok_or("no such extension")?;
-    let extension = leaked(alloc, found)?;
-    Ok(
-        goes_alone(alloc, every, whole, empty, row)?
-            && goes_by_extension(alloc, whole, empty, extension)?,
-    )
+    if !goes_alone(alloc, every, whole, empty, row)? {
+        return Ok(false);
+    }
+    match every.get_field(row.0)? {
+        Some(field) => {
+            let field = leaked(alloc, field)?;
+            for named in [
+                Named::Number(row.0),
+                Named::Name(field.name()),
+                Named::Field(field),
+            ] {
+                if !goes(alloc, whole, empty, named)? {
+                    return Ok(false);
+                }
+            }
+            Ok(true)
+        }
+        None => {
+            let extension = lent(alloc, every.get_extension(row.0))?;
+            goes(alloc, whole, empty, Named::Extension(extension))
+        }
+    }
 }
 
 #[test]
-fn a_field_of_each_kind_goes_in_each_way(rt: HostRuntime) -> Result<(), Fail> {
+fn fields_and_extensions_of_each_kind_go_in_each_way(rt: HostRuntime) -> Result<(), Fail> {
     let every = message_type(rt.alloc(), sets::every(), "e.Every")?;
     for row in fields() {
-        assert!(rt; field_goes(rt.alloc(), every, row)?, "{}", row.0);
+        assert!(rt; row_goes(rt.alloc(), every, row)?, "{}", row.0);
     }
-    Ok(())
-}
-
-#[test]
-fn an_extension_of_each_kind_goes(rt: HostRuntime) -> Result<(), Fail> {
-    let every = message_type(rt.alloc(), sets::every(), "e.Every")?;
     for row in extensions() {
-        assert!(rt; extension_goes(rt.alloc(), every, row)?, "{}", row.0);
+        assert!(rt; row_goes(rt.alloc(), every, row)?, "{}", row.0);
     }
     Ok(())
 }

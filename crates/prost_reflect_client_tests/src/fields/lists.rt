@@ -1,6 +1,6 @@
 //! The fields and extensions of messages as lists, and taking them all.
 
-use crate::fields::types::{choices, empty, message_of};
+use crate::fields::types::{choices, message_of};
 use prost_reflect::{DynamicMessage, Present, TakenExtensions, TakenFields, Value};
 use prost_reflect_samples::{leaked, sets};
 use std::alloc::{AllocError, Global};
@@ -57,53 +57,129 @@ fn are_extensions(taken: TakenExtensions, expected: &[Row]) -> bool {
     all && rows.next().is_none()
 }
 
-/// The bytes of a message, and the fields that it has: 0 has presence in a oneof, and a stored 0 has none elsewhere.
-static ROWS: &[(&[u8], &[Row])] = &[
-    (b"\x08\x96\x01\x10\x00", &[(1, 150), (2, 0)]),
-    (b"\x08\x00\x10\x00", &[(2, 0)]),
-    (b"\x08\x00", &[]),
-];
-
-/// Whether these fields are listed and taken, and nothing is left.
-fn gives_all_fields(
-    alloc: Global,
-    message: &mut DynamicMessage,
-    expected: &[Row],
-) -> Result<bool, Fail> {
-    Ok(
-        has_fields(message, expected)?
-            && are_fields(message.take_fields(alloc)?, expected)
-            && *message == *empty(alloc, "package.MyMessage")?,
-    )
-}
-
-#[test]
-fn all_fields_are_taken(rt: HostRuntime) -> Result<(), Fail> {
-    for row in ROWS {
-        let message = message_of(rt.alloc(), sets::worked(), "package.MyMessage", row.0)?;
-        assert!(rt; gives_all_fields(rt.alloc(), message, row.1)?);
+/// Whether these are the numbers of the rows.
+fn are_numbers(numbers: &[u32], expected: &[Row]) -> bool {
+    let mut rows = expected.iter();
+    let mut all = true;
+    for number in numbers {
+        all &= match rows.next() {
+            Some(row) => row.0 == *number,
+            None => false,
+        };
     }
-    Ok(())
+    all && rows.next().is_none()
 }
 
 /// 5 in the field `f1`, an undeclared number of the closed enum in `f5`, 7 in the extension `f12`, and an unknown field of the number 20.
 const MIXED: &[u8] = &[0x08, 5, 0x28, 7, 0x60, 7, 0xa0, 1, 3];
 
-/// Whether `f1` alone is listed as a field, and `f12` alone as an extension.
-fn lists_apart(alloc: Global, message: &DynamicMessage) -> Result<bool, AllocError> {
+/// A message of a type of a name in `worked`, or of `Choices`.
+struct Case {
+    name: &'static str,
+    bytes: &'static [u8],
+    fields: &'static [Row],
+    extensions: &'static [Row],
+    /// What is left where the extensions are taken, where the fields are, and where both are.
+    without_extensions: &'static [u8],
+    without_fields: &'static [u8],
+    without_both: &'static [u8],
+}
+
+static CASES: [Case; 5] = [
+    // 0 has presence in a oneof, and a stored 0 has none elsewhere.
+    Case {
+        name: "package.MyMessage",
+        bytes: b"\x08\x96\x01\x10\x00",
+        fields: &[(1, 150), (2, 0)],
+        extensions: &[],
+        without_extensions: b"\x08\x96\x01\x10\x00",
+        without_fields: b"",
+        without_both: b"",
+    },
+    Case {
+        name: "package.MyMessage",
+        bytes: b"\x08\x00\x10\x00",
+        fields: &[(2, 0)],
+        extensions: &[],
+        without_extensions: b"\x08\x00\x10\x00",
+        without_fields: b"",
+        without_both: b"",
+    },
+    Case {
+        name: "package.MyMessage",
+        bytes: b"\x08\x00",
+        fields: &[],
+        extensions: &[],
+        without_extensions: b"\x08\x00",
+        without_fields: b"",
+        without_both: b"",
+    },
+    // What is neither stays.
+    Case {
+        name: "Choices",
+        bytes: MIXED,
+        fields: &[(1, 5)],
+        extensions: &[(12, 7)],
+        without_extensions: &[0x08, 5, 0x28, 7, 0xa0, 1, 3],
+        without_fields: &[0x28, 7, 0x60, 7, 0xa0, 1, 3],
+        without_both: &[0x28, 7, 0xa0, 1, 3],
+    },
+    // A packed record without numbers stores an empty list, which is no value and is taken away with the others.
+    Case {
+        name: "b.Foo",
+        bytes: b"\x0a\x00\xa2\x06\x00",
+        fields: &[],
+        extensions: &[],
+        without_extensions: b"\x0a\x00",
+        without_fields: b"\xa2\x06\x00",
+        without_both: b"",
+    },
+];
+
+/// The message of the type that the bytes mean.
+fn message_named(
+    alloc: Global,
+    name: &str,
+    bytes: &[u8],
+) -> Result<&'static mut DynamicMessage, Fail> {
+    if name == "Choices" {
+        choices(alloc, bytes)
+    } else {
+        message_of(alloc, sets::worked(), name, bytes)
+    }
+}
+
+/// Whether the fields and the extensions are listed apart, and so are their numbers.
+fn lists_apart(alloc: Global, message: &DynamicMessage, case: &Case) -> Result<bool, AllocError> {
+    let fields = leaked(alloc, message.field_numbers(alloc)?)?;
+    let extensions = leaked(alloc, message.extension_numbers(alloc)?)?;
     Ok(
-        has_fields(message, &[(1, 5)])?
-            && has_extensions(message, &[(12, 7)])?
-            && message.field_numbers(alloc)?.as_slice() == [1].as_slice()
-            && message.extension_numbers(alloc)?.as_slice() == [12].as_slice(),
+        has_fields(message, case.fields)?
+            && has_extensions(message, case.extensions)?
+            && are_numbers(fields.as_slice(), case.fields)
+            && are_numbers(extensions.as_slice(), case.extensions),
     )
 }
 
-#[test]
-fn fields_and_extensions_are_listed_apart(rt: HostRuntime) -> Result<(), Fail> {
-    let message = choices(rt.alloc(), MIXED)?;
-    assert!(rt; lists_apart(rt.alloc(), message)?);
-    Ok(())
+/// Whether the extensions are taken, and then the fields, and the rest is left.
+fn gives_both(alloc: Global, case: &Case) -> Result<bool, Fail> {
+    let message = message_named(alloc, case.name, case.bytes)?;
+    Ok(
+        lists_apart(alloc, message, case)?
+            && are_extensions(message.take_extensions(alloc)?, case.extensions)
+            && *message == *message_named(alloc, case.name, case.without_extensions)?
+            && are_fields(message.take_fields(alloc)?, case.fields)
+            && *message == *message_named(alloc, case.name, case.without_both)?,
+    )
+}
+
+/// Whether the fields alone are taken.
+fn gives_fields(alloc: Global, case: &Case) -> Result<bool, Fail> {
+    let message = message_named(alloc, case.name, case.bytes)?;
+    Ok(
+        are_fields(message.take_fields(alloc)?, case.fields)
+            && *message == *message_named(alloc, case.name, case.without_fields)?,
+    )
 }
 
 /// Adds a line of what the message has at a number: an `int32` with its value, unknown fields with how many there are.
@@ -148,58 +224,14 @@ static PRESENT: &[(&[u8], &str)] = &[
 
 /// All that a message has comes in ascending number, a value in front of the strays of its number.
 #[test]
-fn all_that_is_present_is_listed(rt: HostRuntime) -> Result<(), Fail> {
+fn what_is_present_is_listed_and_taken(rt: HostRuntime) -> Result<(), Fail> {
+    for (place, case) in CASES.iter().enumerate() {
+        assert!(rt; gives_both(rt.alloc(), case)?, "{place}");
+        assert!(rt; gives_fields(rt.alloc(), case)?, "{place}");
+    }
     for row in PRESENT {
         let lines = lines_of(rt.alloc(), choices(rt.alloc(), row.0)?)?;
         assert!(rt; lines.as_str() == row.1, "{lines}");
     }
-    Ok(())
-}
-
-/// Whether `f12` alone is taken where the extensions are.
-fn gives_extensions(alloc: Global, message: &mut DynamicMessage) -> Result<bool, Fail> {
-    Ok(
-        are_extensions(message.take_extensions(alloc)?, &[(12, 7)])
-            && *message == *choices(alloc, &[0x08, 5, 0x28, 7, 0xa0, 1, 3])?,
-    )
-}
-
-/// Whether `f1` alone is taken where the fields are.
-fn gives_fields(alloc: Global, message: &mut DynamicMessage) -> Result<bool, Fail> {
-    Ok(
-        are_fields(message.take_fields(alloc)?, &[(1, 5)])
-            && *message == *choices(alloc, &[0x28, 7, 0x60, 7, 0xa0, 1, 3])?,
-    )
-}
-
-#[test]
-fn what_is_not_taken_stays(rt: HostRuntime) -> Result<(), Fail> {
-    assert!(rt; gives_extensions(rt.alloc(), choices(rt.alloc(), MIXED)?)?);
-    assert!(rt; gives_fields(rt.alloc(), choices(rt.alloc(), MIXED)?)?);
-    Ok(())
-}
-
-/// The message of `Foo` that the bytes mean.
-fn foo(alloc: Global, bytes: &[u8]) -> Result<&'static mut DynamicMessage, Fail> {
-    message_of(alloc, sets::worked(), "b.Foo", bytes)
-}
-
-/// Whether nothing is listed or taken, and the empty list of the extension goes, and then that of the field.
-fn gives_no_lists(alloc: Global, message: &mut DynamicMessage) -> Result<bool, Fail> {
-    Ok(
-        has_fields(message, &[])?
-            && has_extensions(message, &[])?
-            && are_extensions(message.take_extensions(alloc)?, &[])
-            && *message == *foo(alloc, b"\x0a\x00")?
-            && are_fields(message.take_fields(alloc)?, &[])
-            && *message == *empty(alloc, "b.Foo")?,
-    )
-}
-
-/// A packed record without numbers stores an empty list, which is no value and is taken away with the others.
-#[test]
-fn empty_lists_are_not_answered(rt: HostRuntime) -> Result<(), Fail> {
-    let message = foo(rt.alloc(), b"\x0a\x00\xa2\x06\x00")?;
-    assert!(rt; gives_no_lists(rt.alloc(), message)?);
     Ok(())
 }

@@ -1,9 +1,10 @@
 //! Many calls on a message with oneofs, beside a table of what it then has.
 
-use crate::fields::access::{clears, is_asked, is_taken, sets, takes};
-use crate::fields::types::message_of;
+use crate::fields::access::{is_asked, is_taken};
+use crate::fields::types::{lent, message_of};
 use crate::fields::unknowns::is_varint;
-use prost_reflect::{DynamicMessage, FieldDescriptor, SetFieldError, Value};
+use crate::fields::ways::{Named, clear, int, lends_numbers, take, takes, takes_known};
+use prost_reflect::{DynamicMessage, FieldDescriptor, MessageDescriptor};
 use prost_reflect_samples::calls::{Call, calls};
 use prost_reflect_samples::leaked;
 use std::alloc::{AllocError, Global};
@@ -20,21 +21,13 @@ static SPREAD: &[u8] =
     \xac\x02 \x01(\x05H\x00\x12\x0d\x0a\x04f330\x18\xca\x02 \x01(\x05\x12\x0d\x0a\x04f360\x18\xe8\
     \x02 \x01(\x05B\x07\x0a\x05firstB\x08\x0a\x06secondb\x06proto3";
 
-/// The fields of the message for the numbers from 1 to 12, in turn.
-fn fields_of(alloc: Global, message: &DynamicMessage) -> Result<&'static [FieldDescriptor], Fail> {
-    let descriptor = leaked(alloc, message.descriptor()?)?;
-    let fields: &'static mut Vec<FieldDescriptor> = leaked(alloc, Vec::new(alloc))?;
-    for number in 1..13_u32 {
-        let found = descriptor.get_field(number.wrapping_mul(30))?;
-        fields.push(found.ok_or("no such field")?)?;
-    }
-    Ok(fields.as_slice())
-}
-
 /// The field for a number from 1 to 12.
-fn field_for(fields: &[FieldDescriptor], number: u32) -> Result<&FieldDescriptor, Fail> {
-    let place = (number as usize).wrapping_sub(1);
-    Ok(fields.get(place).ok_or("no such field")?)
+fn field_for(
+    alloc: Global,
+    spread: &MessageDescriptor,
+    number: u32,
+) -> Result<&'static FieldDescriptor, Fail> {
+    lent(alloc, spread.get_field(number.wrapping_mul(30)))
 }
 
 /// A value from 0 to 4.
@@ -42,56 +35,13 @@ fn small(amount: u32) -> i32 {
     (amount % 5) as i32
 }
 
-/// Sets the field of the name to the number by both calls.
-fn set_named(message: &mut DynamicMessage, name: &str, value: i32) -> Result<(), SetFieldError> {
-    message.try_set_field_by_name(name, Value::I32(value))?;
-    message.set_field_by_name(name, Value::I32(value))?;
-    Ok(())
-}
-
-/// Whether the field is set to the value for the amount: by its descriptor, its number or its name.
-fn sets_in_turn(message: &mut DynamicMessage, field: &FieldDescriptor, amount: u32) -> bool {
-    let value = small(amount);
-    match amount % 3 {
-        0 => sets(message, field, value),
-        1 => message
-            .try_set_field_by_number(field.number(), Value::I32(value))
-            .is_ok(),
-        _ => set_named(message, field.name(), value).is_ok(),
+/// The field by its number, its descriptor or its name, in turn.
+fn in_turn(field: &FieldDescriptor, turn: u32) -> Named<'_> {
+    match turn % 3 {
+        0 => Named::Number(field.number()),
+        1 => Named::Field(field),
+        _ => Named::Name(field.name()),
     }
-}
-
-/// Whether what is taken of the field is what is expected: of every third one by its number, and else by its descriptor.
-fn takes_in_turn(
-    message: &mut DynamicMessage,
-    field: &FieldDescriptor,
-    expected: Option<i32>,
-) -> bool {
-    let (number, value, had) = (field.number(), expected.unwrap_or(0), expected.is_some());
-    if number % 90 == 0 {
-        is_taken(&message.take_field_by_number(number), value, had)
-    } else {
-        takes(message, field, value, had)
-    }
-}
-
-/// Whether the field is the message's own, and what is written is the number expected, where the amount is added to the value lent.
-fn writes(
-    alloc: Global,
-    message: &mut DynamicMessage,
-    field: &FieldDescriptor,
-    amount: i32,
-    expected: Option<i32>,
-) -> Result<bool, AllocError> {
-    if !message.owns_field(field) {
-        return Ok(false);
-    }
-    let lent = message.get_field_mut(alloc, field)?;
-    let written = lent.as_i32().map(|number| number.wrapping_add(amount));
-    if let Some(number) = written {
-        *lent = Value::I32(number);
-    }
-    Ok(written.is_some() && written == expected)
 }
 
 /// Makes a call on the field of the message. Whether it takes or writes what is expected.
@@ -101,12 +51,31 @@ fn gives(
     field: &FieldDescriptor,
     call: Call,
     expected: Option<i32>,
-) -> Result<bool, AllocError> {
+) -> Result<bool, Fail> {
     match call {
-        Call::Set(_, amount) => Ok(sets_in_turn(message, field, amount) && expected.is_none()),
-        Call::Write(_, amount) => writes(alloc, message, field, small(amount), expected),
-        Call::Clear(_) => Ok(clears(message, field) && expected.is_none()),
-        Call::Take(_) => Ok(takes_in_turn(message, field, expected)),
+        Call::Set(_, amount) => {
+            let (named, value) = (in_turn(field, amount), small(amount));
+            Ok(
+                takes(message, named, int(alloc, value)?)?
+                    && takes_known(message, named, value)
+                    && expected.is_none(),
+            )
+        }
+        Call::Write(_, amount) => match expected {
+            Some(written) => {
+                let numbers = (written.wrapping_sub(small(amount)), written);
+                lends_numbers(alloc, message, Named::Field(field), numbers)
+            }
+            None => Ok(false),
+        },
+        Call::Clear(_) => {
+            clear(message, Named::Field(field));
+            Ok(expected.is_none())
+        }
+        Call::Take(number) => {
+            let (value, had) = (expected.unwrap_or(0), expected.is_some());
+            Ok(is_taken(&take(message, in_turn(field, number)), value, had))
+        }
     }
 }
 
@@ -177,14 +146,15 @@ impl Table {
 fn agrees(
     alloc: Global,
     message: &DynamicMessage,
-    fields: &[FieldDescriptor],
+    spread: &MessageDescriptor,
     table: &Table,
 ) -> Result<bool, Fail> {
     for number in 1..13_u32 {
         let stored = table.values[number as usize % 13];
         let had = table.had(number).is_some();
         let expected = (had, stored.unwrap_or(0), stored.is_some());
-        if !is_asked(alloc, message, field_for(fields, number)?, expected)? {
+        let field = Named::Field(field_for(alloc, spread, number)?);
+        if !is_asked(alloc, message, field, expected)? {
             return Ok(false);
         }
     }
@@ -195,13 +165,13 @@ fn agrees(
 fn is_made(
     alloc: Global,
     message: &mut DynamicMessage,
-    fields: &[FieldDescriptor],
+    spread: &MessageDescriptor,
     table: &mut Table,
     call: Call,
 ) -> Result<bool, Fail> {
     let expected = table.apply(call);
-    let field = field_for(fields, call.number())?;
-    Ok(gives(alloc, message, field, call, expected)? && agrees(alloc, message, fields, table)?)
+    let field = field_for(alloc, spread, call.number())?;
+    Ok(gives(alloc, message, field, call, expected)? && agrees(alloc, message, spread, table)?)
 }
 
 /// How many calls agree with a table, up to the first that does not.
@@ -210,10 +180,10 @@ fn agreeing_calls(
     message: &mut DynamicMessage,
     calls: &[Call],
 ) -> Result<usize, Fail> {
-    let fields = fields_of(alloc, message)?;
+    let spread = leaked(alloc, message.descriptor()?)?;
     let mut table = Table { values: [None; 13] };
     for (step, call) in calls.iter().enumerate() {
-        if !is_made(alloc, message, fields, &mut table, *call)? {
+        if !is_made(alloc, message, spread, &mut table, *call)? {
             return Ok(step);
         }
     }

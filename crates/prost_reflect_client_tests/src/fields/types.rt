@@ -4,8 +4,16 @@ use prost_reflect::{
     DescriptorPool, DynamicMessage, EncodeError, FieldDescriptor, MessageDescriptor,
 };
 use prost_reflect_samples::{leaked, sets};
-use std::alloc::Global;
+use std::alloc::{AllocError, Global};
 use std::test::Fail;
+
+/// The definition that was found.
+pub(crate) fn lent<'a, D: Drop + 'a>(
+    alloc: Global,
+    found: Result<Option<D>, AllocError>,
+) -> Result<&'a D, Fail> {
+    Ok(leaked(alloc, found?.ok_or("no such definition")?)?)
+}
 
 /// The message type of a name in a descriptor set.
 pub(crate) fn message_type(
@@ -14,10 +22,7 @@ pub(crate) fn message_type(
     name: &str,
 ) -> Result<&'static MessageDescriptor, Fail> {
     let pool = leaked(alloc, DescriptorPool::decode(alloc, set)?)?;
-    let found = pool
-        .get_message_by_name(name)?
-        .ok_or("no such message type")?;
-    Ok(leaked(alloc, found)?)
+    lent(alloc, pool.get_message_by_name(name))
 }
 
 /// The message that the bytes mean to the type of a name in a descriptor set.
@@ -53,10 +58,7 @@ pub(crate) fn worked_field(
     name: &str,
     number: u32,
 ) -> Result<&'static FieldDescriptor, Fail> {
-    let found = worked_type(alloc, name)?
-        .get_field(number)?
-        .ok_or("no such field")?;
-    Ok(leaked(alloc, found)?)
+    lent(alloc, worked_type(alloc, name)?.get_field(number))
 }
 
 /// The empty message of the type of a name in `worked`.

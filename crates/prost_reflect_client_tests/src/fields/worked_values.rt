@@ -1,21 +1,15 @@
 //! Which values the fields of worked messages take, and which types are reductions.
 
-use crate::fields::types::{empty, is_message, is_written, message_type, worked_field};
+use crate::fields::types::{is_message, is_written, message_type, worked_field};
 use prost_reflect::{DynamicMessage, FieldDescriptor, MapKey, SetFieldError, Value};
 use prost_reflect_samples::{leaked, sets};
 use std::alloc::{AllocError, Global};
 use std::test::Fail;
 
-/// The list of 1 and -1.
-fn list(alloc: Global) -> Result<Value, AllocError> {
-    let items = vec![in alloc; Value::I32(1), Value::I32(-1)]?;
-    Ok(Value::List(items))
-}
-
-/// The value that a word stands for.
+/// The value that a word stands for: `list` for the list of 1 and -1.
 fn meant(alloc: Global, word: &str) -> Result<Value, AllocError> {
     match word {
-        "list" => list(alloc),
+        "list" => Ok(Value::List(vec![in alloc; Value::I32(1), Value::I32(-1)]?)),
         "i32" => Ok(Value::I32(1)),
         "5" => Ok(Value::I32(5)),
         "number 7" => Ok(Value::EnumNumber(7)),
@@ -23,65 +17,14 @@ fn meant(alloc: Global, word: &str) -> Result<Value, AllocError> {
     }
 }
 
-/// Whether the field is the message's own, and takes the value that the word stands for or refuses it.
-fn tries(
-    alloc: Global,
-    message: &mut DynamicMessage,
-    field: &FieldDescriptor,
-    (word, is_taken): (&str, bool),
-) -> Result<bool, AllocError> {
-    Ok(
-        message.owns_field(field)
-            && message.try_set_field(field, meant(alloc, word)?).is_ok() == is_taken,
-    )
-}
-
-/// Whether the field takes the list, which is written as one that is read.
-fn is_list_set(
-    alloc: Global,
-    message: &mut DynamicMessage,
-    field: &FieldDescriptor,
-) -> Result<bool, Fail> {
-    let digits = "0a0b01ffffffffffffffffff01";
-    let written = leaked(alloc, hex::decode(alloc, digits)?)?;
-    Ok(
-        tries(alloc, message, field, ("list", true))?
-            && is_written(alloc, message, written.as_slice())?
-            && is_message(alloc, message, "a.Foo", digits)?,
-    )
-}
-
-#[test]
-fn a_list_is_set(rt: HostRuntime) -> Result<(), Fail> {
-    let values = worked_field(rt.alloc(), "a.Foo", 1)?;
-    let message = empty(rt.alloc(), "a.Foo")?;
-    assert!(rt; is_list_set(rt.alloc(), message, values)?);
-    Ok(())
-}
-
-/// A message type, a value that its field 1 refuses, and what the refusal says.
-static REFUSALS: [(&str, &str, &str); 4] = [
-    (
-        "package.MyMessage",
-        "bar",
-        "expected a value of type 'int32'",
-    ),
-    ("b.Foo", "i32", "expected a value of type 'repeated int32'"),
-    (
-        "a.P",
-        "i32",
-        "expected a value of type 'map<string, int32>'",
-    ),
-    ("C", "number 7", "expected a value of type 'E'"),
-];
-
 /// Whether the refusal says the text.
 fn says(alloc: Global, refused: &SetFieldError, text: &str) -> Result<bool, AllocError> {
     Ok(format!(in alloc; "{refused}")?.as_str() == text)
 }
 
-/// Whether the field is the message's own, and refuses the value that the word stands for with the text.
-fn refuses(
+/// Whether the field is the message's own, and refuses the value that the word stands for with the text, or takes it where there is
+/// none.
+fn answers(
     alloc: Global,
     message: &mut DynamicMessage,
     field: &FieldDescriptor,
@@ -91,43 +34,75 @@ fn refuses(
         return Ok(false);
     }
     match message.try_set_field(field, meant(alloc, word)?) {
-        Ok(()) => Ok(false),
+        Ok(()) => Ok(text.is_empty()),
         Err(refused) => says(alloc, &refused, text),
     }
 }
 
-#[test]
-fn a_worked_refusal_names_the_type(rt: HostRuntime) -> Result<(), Fail> {
-    let alloc = rt.alloc();
-    for (name, word, text) in &REFUSALS {
-        let field = worked_field(alloc, name, 1)?;
-        let parent = field.parent_message();
-        let message = leaked(alloc, DynamicMessage::new(alloc, parent.clone()?))?;
-        assert!(rt; refuses(alloc, message, field, (*word, *text))?);
-    }
-    Ok(())
-}
+/// A message type, a value that its field 1 takes, or none, one that it then refuses, what the refusal says, and the digits of the
+/// message that is left.
+type Row = (
+    &'static str,
+    &'static str,
+    &'static str,
+    &'static str,
+    &'static str,
+);
 
-/// Whether the message is that of a 5 where the field takes a 5 and then refuses a text.
-fn keeps_value(
-    alloc: Global,
-    message: &mut DynamicMessage,
-    field: &FieldDescriptor,
-) -> Result<bool, Fail> {
+static ROWS: [Row; 6] = [
+    (
+        "package.MyMessage",
+        "",
+        "bar",
+        "expected a value of type 'int32'",
+        "",
+    ),
+    (
+        "b.Foo",
+        "",
+        "i32",
+        "expected a value of type 'repeated int32'",
+        "",
+    ),
+    (
+        "a.P",
+        "",
+        "i32",
+        "expected a value of type 'map<string, int32>'",
+        "",
+    ),
+    ("C", "", "number 7", "expected a value of type 'E'", ""),
+    (
+        "a.Foo",
+        "list",
+        "bar",
+        "expected a value of type 'repeated int32'",
+        "0a0b01ffffffffffffffffff01",
+    ),
+    (
+        "package.MyMessage",
+        "5",
+        "bar",
+        "expected a value of type 'int32'",
+        "0805",
+    ),
+];
+
+/// Whether the row's field takes its value, which stays where the other one is refused, and is written as one that is read.
+fn is_kept(alloc: Global, row: &Row) -> Result<bool, Fail> {
+    let (name, taken, refused, text, digits) = row;
+    let field = worked_field(alloc, name, 1)?;
+    let message = leaked(
+        alloc,
+        DynamicMessage::new(alloc, field.parent_message().clone()?),
+    )?;
+    let written = leaked(alloc, hex::decode(alloc, digits)?)?;
     Ok(
-        tries(alloc, message, field, ("5", true))?
-            && tries(alloc, message, field, ("bar", false))?
-            && is_message(alloc, message, "package.MyMessage", "0805")?,
+        (taken.is_empty() || answers(alloc, message, field, (*taken, ""))?)
+            && answers(alloc, message, field, (*refused, *text))?
+            && is_written(alloc, message, written.as_slice())?
+            && is_message(alloc, message, name, digits)?,
     )
-}
-
-/// A refused value leaves the one that is there.
-#[test]
-fn a_refused_value_changes_nothing(rt: HostRuntime) -> Result<(), Fail> {
-    let foo = worked_field(rt.alloc(), "package.MyMessage", 1)?;
-    let message = empty(rt.alloc(), "package.MyMessage")?;
-    assert!(rt; keeps_value(rt.alloc(), message, foo)?);
-    Ok(())
 }
 
 /// Whether there is a key, which is the text.
@@ -138,14 +113,15 @@ fn is_text(key: &Option<MapKey>, text: &str) -> bool {
     }
 }
 
-#[test]
-fn values_become_keys(rt: HostRuntime) -> Result<(), Fail> {
-    let five = leaked(rt.alloc(), Some(MapKey::I32(5)))?;
-    let text = Value::String(String::from_str(rt.alloc(), "foo")?);
-    assert!(rt; is_text(&text.into_map_key(), "foo"));
-    assert!(rt; Value::I32(5).into_map_key() == *five);
-    assert!(rt; Value::Bytes(Vec::new(rt.alloc())).into_map_key().is_none());
-    Ok(())
+/// Whether the text `foo` and the number 5 become keys, and bytes none.
+fn become_keys(alloc: Global) -> Result<bool, AllocError> {
+    let five = leaked(alloc, Some(MapKey::I32(5)))?;
+    let text = Value::String(String::from_str(alloc, "foo")?);
+    Ok(
+        is_text(&text.into_map_key(), "foo")
+            && Value::I32(5).into_map_key() == *five
+            && Value::Bytes(Vec::new(alloc)).into_map_key().is_none(),
+    )
 }
 
 /// Whether the older type of the name is a reduction of the newer one.
@@ -155,9 +131,14 @@ fn is_reduction(alloc: Global, name: &str) -> Result<bool, Fail> {
     Ok(older.is_reduction_of(newer)?)
 }
 
-/// A type without a field is a reduction, and one without the members of a oneof is none.
+/// Values are taken, refused, or become keys. A type without a field is a reduction, and one without the members of a oneof is
+/// none.
 #[test]
-fn older_types_are_reductions_or_not(rt: HostRuntime) -> Result<(), Fail> {
+fn worked_values_are_taken_or_refused(rt: HostRuntime) -> Result<(), Fail> {
+    for row in &ROWS {
+        assert!(rt; is_kept(rt.alloc(), row)?, "{} {}", row.0, row.1);
+    }
+    assert!(rt; become_keys(rt.alloc())?);
     for (name, answer) in [
         ("package.MyMessage", true),
         ("P", true),

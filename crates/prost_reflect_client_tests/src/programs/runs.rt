@@ -7,6 +7,7 @@ use crate::programs::descriptors::{
 };
 use crate::programs::editing::{clear_owned, set_number_twice, set_twice};
 use crate::programs::merging::read_in_pieces;
+use crate::programs::moving::{messages_drained, move_and_write, take_and_set_again};
 use crate::programs::nesting::clear_before;
 use prost_reflect::{DynamicMessage, Kind, MapKey};
 use prost_reflect_samples::{leaked, sets};
@@ -100,5 +101,31 @@ fn is_joined(alloc: Global, message: &DynamicMessage) -> Result<bool, Fail> {
 fn pieces_hold_what_the_whole_holds(rt: HostRuntime) -> Result<(), Fail> {
     let message = choices(rt.alloc(), BYTES)?;
     assert!(rt; is_joined(rt.alloc(), message)?);
+    Ok(())
+}
+
+/// Whether the field `f1` alone is moved to a new message, and is there again where it was taken and set; and whether a message
+/// with no other in it is one.
+fn moves(alloc: Global) -> Result<bool, Fail> {
+    let message = choices(alloc, BYTES)?;
+    let message_type = leaked(alloc, message.descriptor()?)?;
+    let moved = move_and_write(
+        alloc,
+        message_type.clone()?,
+        message_type.clone()?,
+        BYTES,
+        1,
+    )?;
+    let again = take_and_set_again(alloc, message_type.clone()?, BYTES, 1)?;
+    Ok(
+        moved.as_slice() == &BYTES[..2]
+            && again.as_slice() == BYTES
+            && messages_drained(alloc, message)? == 1,
+    )
+}
+
+#[test]
+fn a_field_is_moved(rt: HostRuntime) -> Result<(), Fail> {
+    assert!(rt; moves(rt.alloc())?);
     Ok(())
 }

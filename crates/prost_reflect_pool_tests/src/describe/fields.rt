@@ -1,87 +1,64 @@
 //! The lines of fields, oneofs and extensions.
 
 use crate::describe::lists::list;
-use crate::describe::words::{Lines, full_name_or_none, shown, write_kind};
-use prost_reflect::{DescriptorPool, ExtensionDescriptor, FieldDescriptor, OneofDescriptor};
-use std::alloc::AllocError;
+use crate::describe::words::{Lines, shown, write_kind};
+use prost_reflect::{
+    Cardinality, DescriptorPool, ExtensionDescriptor, FieldDescriptor, FieldDescriptorLike,
+    OneofDescriptor,
+};
 
 /// A field of a message type.
-pub fn write_field(lines: &mut Lines, field: &FieldDescriptor) -> Result<(), AllocError> {
+pub fn write_field(lines: &mut Lines, field: &FieldDescriptor) {
     lines.word("field ", field.full_name());
     lines.path(" path=", field.path());
     lines.word(" json=", field.json_name());
+    write_values(lines, field, field.cardinality());
+    lines.value(" required=", field.is_required());
+    lines.found_or_none(" oneof=", field.containing_oneof());
+    lines.add("\n");
+}
+
+/// A oneof of a message type.
+pub fn write_oneof(lines: &mut Lines, oneof: &OneofDescriptor) {
+    lines.word("oneof ", oneof.full_name());
+    lines.path(" path=", oneof.path());
+    list(lines, " fields=", oneof.fields());
+    lines.value(" synthetic=", oneof.is_synthetic());
+    lines.add("\n");
+}
+
+/// The extensions of a pool.
+pub fn write_extensions(lines: &mut Lines, pool: &DescriptorPool) {
+    for extension in pool.all_extensions() {
+        match extension {
+            Ok(extension) => write_extension(lines, &extension),
+            Err(error) => lines.fail(error),
+        }
+    }
+}
+
+/// The line of an extension: where it stands, what it extends, and which values it has.
+fn write_extension(lines: &mut Lines, extension: &ExtensionDescriptor) {
+    lines.word("extension ", extension.full_name());
+    lines.word(" name=", extension.name());
+    lines.found(" file=", extension.parent_file());
+    lines.word(" package=", shown(extension.package_name()));
+    lines.path(" path=", extension.path());
+    lines.found_or_none(" parent=", extension.parent_message());
+    lines.word(" json=", extension.json_name());
+    lines.found(" containing=", extension.containing_message());
+    write_values(lines, extension, extension.cardinality());
+    lines.add("\n");
+}
+
+/// Which values a field or an extension has.
+fn write_values<F: FieldDescriptorLike>(lines: &mut Lines, field: &F, cardinality: Cardinality) {
     lines.value(" number=", field.number());
-    write_kind(lines, &field.kind()?);
-    lines.value(" cardinality=", format_args!("{:?}", field.cardinality()));
+    write_kind(lines, field.kind());
+    lines.value(" cardinality=", format_args!("{cardinality:?}"));
     lines.value(" presence=", field.supports_presence());
     lines.value(" packed=", field.is_packed());
     lines.value(" group=", field.is_group());
     lines.value(" list=", field.is_list());
     lines.value(" map=", field.is_map());
-    lines.value(" required=", field.is_required());
-    lines.word(" oneof=", name_or_none(&field.containing_oneof()?));
-    lines.add("\n");
-    Ok(())
-}
-
-/// The name of the oneof, or `-` where there is none.
-fn name_or_none(oneof: &Option<OneofDescriptor>) -> &str {
-    match oneof {
-        Some(oneof) => oneof.name(),
-        None => "-",
-    }
-}
-
-/// A oneof of a message type.
-pub fn write_oneof(lines: &mut Lines, oneof: &OneofDescriptor) -> Result<(), AllocError> {
-    lines.word("oneof ", oneof.full_name());
-    lines.path(" path=", oneof.path());
-    list(lines, " fields=", oneof.fields())?;
-    lines.value(" synthetic=", oneof.is_synthetic());
-    lines.add("\n");
-    Ok(())
-}
-
-/// The extensions of a pool.
-pub fn write_extensions(lines: &mut Lines, pool: &DescriptorPool) -> Result<(), AllocError> {
-    for extension in pool.all_extensions() {
-        write_extension(lines, &extension?)?;
-    }
-    Ok(())
-}
-
-/// The line of an extension.
-fn write_extension(lines: &mut Lines, extension: &ExtensionDescriptor) -> Result<(), AllocError> {
-    write_place(lines, extension)?;
-    lines.value(" number=", extension.number());
-    write_kind(lines, &extension.kind()?);
-    write_values(lines, extension);
-    Ok(())
-}
-
-/// Where the extension stands, and what it extends.
-fn write_place(lines: &mut Lines, extension: &ExtensionDescriptor) -> Result<(), AllocError> {
-    lines.word("extension ", extension.full_name());
-    lines.word(" name=", extension.name());
-    lines.word(" file=", extension.parent_file()?.name());
-    lines.word(" package=", shown(extension.package_name()));
-    lines.path(" path=", extension.path());
-    lines.word(" parent=", full_name_or_none(&extension.parent_message()?));
-    lines.word(" json=", extension.json_name());
-    lines.word(" containing=", extension.containing_message()?.full_name());
-    Ok(())
-}
-
-/// Which values the extension has.
-fn write_values(lines: &mut Lines, extension: &ExtensionDescriptor) {
-    lines.value(
-        " cardinality=",
-        format_args!("{:?}", extension.cardinality()),
-    );
-    lines.value(" presence=", extension.supports_presence());
-    lines.value(" packed=", extension.is_packed());
-    lines.value(" group=", extension.is_group());
-    lines.value(" list=", extension.is_list());
-    lines.value(" map=", extension.is_map());
-    lines.add("\n");
 }

@@ -2,11 +2,10 @@
 
 use crate::describe::words::Lines;
 use prost_reflect::{
-    Descriptors, EnumDescriptor, EnumReservedRanges, ExtensionDescriptor, ExtensionRanges,
-    FieldDescriptor, FileDescriptor, MessageDescriptor, MethodDescriptor, OneofDescriptor, Placed,
-    ReservedNames, ReservedRanges, ServiceDescriptor,
+    Descriptors, EnumDescriptor, EnumReservedRanges, EnumValueDescriptor, ExtensionDescriptor,
+    ExtensionRanges, FieldDescriptor, FileDescriptor, MessageDescriptor, MethodDescriptor,
+    OneofDescriptor, Placed, ReservedNames, ReservedRanges, ServiceDescriptor,
 };
-use std::alloc::AllocError;
 
 /// A definition that stands in lists.
 pub trait Listed {
@@ -50,6 +49,12 @@ impl Listed for EnumDescriptor {
     }
 }
 
+impl Listed for EnumValueDescriptor {
+    fn listed(&self) -> &str {
+        self.name()
+    }
+}
+
 impl Listed for ServiceDescriptor {
     fn listed(&self) -> &str {
         self.full_name()
@@ -67,13 +72,15 @@ pub fn list<P, D: Placed<P> + Listed + Drop>(
     lines: &mut Lines,
     label: &str,
     definitions: Descriptors<'_, P, D>,
-) -> Result<(), AllocError> {
+) {
     lines.list(label);
     for definition in definitions {
-        lines.item(definition?.listed());
+        match definition {
+            Ok(definition) => lines.item(definition.listed()),
+            Err(error) => lines.fail(error),
+        }
     }
     lines.end_list();
-    Ok(())
 }
 
 /// Names that are reserved.

@@ -1,6 +1,7 @@
 //! Lines, and the words that they are made of.
 
-use prost_reflect::{Kind, MessageDescriptor, WireType};
+use crate::describe::lists::Listed;
+use prost_reflect::{Kind, WireType};
 use std::alloc::{AllocError, Global};
 use std::fmt::Display;
 
@@ -44,6 +45,32 @@ impl Lines {
         }
     }
 
+    /// Adds the name of a definition behind its label.
+    pub fn found<D: Listed + Drop>(&mut self, label: &str, found: Result<D, AllocError>) {
+        match found {
+            Ok(found) => self.word(label, found.listed()),
+            Err(error) => self.fail(error),
+        }
+    }
+
+    /// Adds the name of a definition behind its label, or `-` where there is none.
+    pub fn found_or_none<D: Listed + Drop>(
+        &mut self,
+        label: &str,
+        found: Result<Option<D>, AllocError>,
+    ) {
+        match found {
+            Ok(Some(found)) => self.word(label, found.listed()),
+            Ok(None) => self.word(label, "-"),
+            Err(error) => self.fail(error),
+        }
+    }
+
+    /// Notes that memory was refused.
+    pub fn fail(&mut self, error: AllocError) {
+        self.outcome = Err(error);
+    }
+
     /// Adds the numbers of a path, joined by dots, behind their label.
     pub fn path(&mut self, label: &str, path: &[i32]) {
         self.add(label);
@@ -60,24 +87,19 @@ impl Lines {
         self.list = self.text.len();
     }
 
-    /// Adds an item to the list.
+    /// Adds an item to the list, behind a comma where the list has one.
     pub fn item(&mut self, text: &str) {
-        self.comma();
+        if self.list < self.text.len() {
+            self.add(",");
+        }
         self.add(text);
     }
 
     /// Adds a range to the list, with a mark between its numbers.
     pub fn range<D: Display + Drop>(&mut self, start: D, mark: &str, end: D) {
-        self.comma();
+        self.item("");
         self.value("", start);
         self.value(mark, end);
-    }
-
-    /// Adds a comma where the list has an item.
-    fn comma(&mut self) {
-        if self.list < self.text.len() {
-            self.add(",");
-        }
     }
 
     /// Ends the list, which is `-` where it has no items.
@@ -99,20 +121,17 @@ pub fn shown(text: &str) -> &str {
     if text.is_empty() { "-" } else { text }
 }
 
-/// The full name of a message type, or none.
-pub fn full_name_or_none(message: &Option<MessageDescriptor>) -> &str {
-    match message {
-        Some(message) => message.full_name(),
-        None => "-",
-    }
-}
-
 /// Adds the kind's name, with that of its message type or enum, and the number of its wire type.
-pub fn write_kind(lines: &mut Lines, kind: &Kind) {
-    let (sort, name) = kind_names(kind);
-    lines.word(" kind=", sort);
-    lines.add(name);
-    lines.value(" wire=", wire_number(kind.wire_type()));
+pub fn write_kind(lines: &mut Lines, kind: Result<Kind, AllocError>) {
+    match kind {
+        Ok(kind) => {
+            let (sort, name) = kind_names(&kind);
+            lines.word(" kind=", sort);
+            lines.add(name);
+            lines.value(" wire=", wire_number(kind.wire_type()));
+        }
+        Err(error) => lines.fail(error),
+    }
 }
 
 /// The kind's name, and that of its message type or enum.
