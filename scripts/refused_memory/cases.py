@@ -176,7 +176,7 @@ def rows():
         yield f"`DynamicMessage::{call}`, of 151 fields", [(f"Message::{call}", MANY, 0, "x")]
     for call in "extension_numbers", "take_unknown_fields":
         yield f"`DynamicMessage::{call}`", [(f"Message::{call}", BYTES, 0, "x")]
-    for call in "fields", "extensions", "take_fields", "take_extensions":
+    for call in "fields", "extensions", "present", "take_fields", "take_extensions":
         yield f"`DynamicMessage::{call}`", [(f"List::{call}", BYTES, 0, "x")]
     for call in "get_field", "get_field_by_number", "get_field_by_name":
         yield f"`{call}`", [(f"Access::{call}", b"", n, "x") for n in VALUES]
@@ -186,7 +186,7 @@ def rows():
             yield f"`{call}{form}`", [(f"Setting::{call}{form}", VALUES[n], n, "x") for n in VALUES]
     for call in "get_extension", "get_extension_mut", "set_extension":
         yield f"`{call}`", [(f"Extension::{call}", BYTES, n, "x") for n in (100, 101)]
-    for call in "relay", "relay_hex", "is_reduction_of":
+    for call in "relay", "relay_hex", "is_reduction_of", "reduction_fault":
         yield f"`{call}`", [(f"Relay::{call}", BYTES, 0, "x")]
     yield "`relay_with`", [("Relay::relay_with", BYTES, 0, "a_text_that_is_set")]
 
