@@ -1,5 +1,6 @@
 //! A message type with two oneofs, an extension and fields of a closed enum.
 
+use prost_reflect_building::with_files;
 use prost_reflect_pool::{LinkedPool, PooledType};
 use prost_reflect_samples::sets;
 use prost_reflect_types::{FileDescriptorSet, Proto};
@@ -10,7 +11,7 @@ use std::test::Fail;
 /// The message type, for a field set.
 pub(crate) fn choices(alloc: Global) -> Result<PooledType, Fail> {
     let set = FileDescriptorSet::decode(alloc, sets::choices())?;
-    let pool = LinkedPool::new(alloc).with_files(set.file)?;
+    let pool = with_files(&LinkedPool::new(alloc), set.file)?;
     match pool.message_place("Choices") {
         Some(index) => Ok(PooledType::new(Rc::new(alloc, pool)?, index)),
         None => Err(Fail::from("no such message type")),

@@ -2,15 +2,10 @@ mod Common
 mod PathWalks
 mod RecordPaths
 mod NamedRecords
-mod BuiltinFacts
 mod NoFiles
-mod BuiltinFields
-mod BuiltinLinks
-mod BuiltinMessages
-mod BuiltinChecked
 pub mod OneFile
 pub mod PoolLinks
-mod FileNames
+pub mod FileNames
 mod Searching
 mod InOrder
 mod InCatalog

@@ -10,6 +10,3 @@ pub mod Lookups
 pub mod MapParts
 pub mod RecordPaths
 pub mod RecordViews
-pub mod Builtin
-pub mod BuiltinRows
-pub mod BuiltinFiles

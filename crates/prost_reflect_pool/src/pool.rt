@@ -57,7 +57,7 @@ impl Eq for LinkedPool {
 }
 
 impl LinkedPool {
-    ghost use Rattle.prost_reflect_pool.specs.Pools.{IsPoolOf, pool_rows};
+    ghost use Rattle.prost_reflect_pool.specs.Pools.{IsPoolOf, files_of, pool_rows};
 
     /// A pool without files.
     pub fn new(alloc: Global) -> LinkedPool
@@ -75,6 +75,33 @@ impl LinkedPool {
             catalog: empty_catalog(alloc),
             identity,
         }
+    }
+
+    /// The pool of files that pass all checks, with the tables that they link to and their catalog.
+    pub fn of(
+        files: Vec<Rc<FileDescriptorProto>>,
+        tables: Tables,
+        catalog: Catalog,
+    ) -> LinkedPool
+        requires built { AreTablesOf (shared_files files.items) (rows_of tables) }
+        requires listed { IsCatalogOf (shared_files files.items) catalog }
+        requires names { IsTrue (names_differ (shared_files files.items)) }
+        ensures { files_of result ≡ shared_files files.items }
+    {
+        let identity = Identity::of(&files);
+        LinkedPool {
+            files,
+            tables,
+            catalog,
+            identity,
+        }
+    }
+
+    /// The files, in the order in which they were added.
+    pub fn files(&self) -> &[Rc<FileDescriptorProto>]
+        ensures { shared_files result.now ≡ files_of self.now }
+    {
+        self.files.as_slice()
     }
 
     /// The linked tables.

@@ -1,7 +1,7 @@
 //! What files are flattened to, and the tables and the catalog that are linked of them.
 
+use prost_reflect_building::build_tables;
 use prost_reflect_linking::{linked, meanings, meanings_by_message};
-use prost_reflect_pool::build_tables;
 use prost_reflect_tables::{
     Catalog, EnumTable, FieldTable, Flat, FlatMessage, Identity, MessageTable, Resolved, Tables,
     all_resolved, flattened,

@@ -5,7 +5,7 @@ use Rattle.prost_reflect_types.specs.declared.table.RecordType.TheVariants as ty
 use Rattle.prost_reflect_tables.specs.declared.error.PoolError.{PoolError}
 use Rattle.prost_reflect_pool.specs.declared.pool.LinkedPool.{LinkedPool}
 use Rattle.prost_reflect_pool.specs.Pools.{pool_rows, IsPoolOfBytes, Refuses}
-use Rattle.prost_reflect_pool.specs.BuiltinRows.{builtin_rows}
+use Rattle.prost_reflect_building.specs.BuiltinRows.{builtin_rows}
 
 -- The word for the built-in files.
 abbrev pub IsBuiltin : List ℕ → Type 0

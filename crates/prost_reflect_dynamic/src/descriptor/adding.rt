@@ -8,6 +8,7 @@ ghost use Rattle.prost_reflect_pool.specs.Pools.{IsPoolOf, RefusesFiles, IsPoolO
 ghost use Rattle.prost_reflect_pool.specs.SharedPools.{files_of};
 
 use crate::descriptor::DescriptorPool;
+use prost_reflect_building::with_files;
 use prost_reflect_pool::LinkedPool;
 use prost_reflect_tables::PoolError;
 use prost_reflect_types::{FileDescriptorProto, FileDescriptorSet, Proto};
@@ -101,7 +102,7 @@ impl DescriptorPool {
         ensures unchanged { OnErr result (self.new ≡ self.old) }
     {
         let alloc = *files.allocator();
-        let inner = self.inner.with_files(files)?;
+        let inner = with_files(&self.inner, files)?;
         self.inner = Rc::new(alloc, inner)?;
         Ok(())
     }

@@ -2,10 +2,10 @@
 
 ghost use Rattle.std.specs.Prelude.{◌≡◌, IfOk, IfErr, map};
 ghost use Rattle.prost_reflect_tables.specs.Shown.{schema_from};
-ghost use Rattle.prost_reflect_pool.specs.Builtin.{builtin_schema, builtin_names};
+ghost use Rattle.prost_reflect_building.specs.Builtin.{builtin_schema, builtin_names};
 ghost use Rattle.prost_reflect_tables.specs.declared.error.PoolError.TheVariants as pool_errors;
-ghost use Rattle.prost_reflect_pool.specs.BuiltinFiles.{AreBuiltin};
-ghost use Rattle.prost_reflect_pool.specs.BuiltinRows.{builtin_rows};
+ghost use Rattle.prost_reflect_building.specs.BuiltinFiles.{AreBuiltin};
+ghost use Rattle.prost_reflect_building.specs.BuiltinRows.{builtin_rows};
 ghost use Rattle.prost_reflect_pool.specs.SharedPools.{files_of, pool_rows};
 
 use crate::descriptor::DescriptorPool;
@@ -35,7 +35,7 @@ pub fn builtin_pool(alloc: Global) -> Result<DescriptorPool, PoolError>
     ensures names { IfOk result (λ pool. map (λ m. m.id.full_name) (pool_rows pool.inner).messages ≡ builtin_names) }
     ensures refused { IfErr result (λ e. e ≡ pool_errors.OutOfMemory) }
 {
-    let pool = prost_reflect_pool::builtin_pool(alloc)?;
+    let pool = prost_reflect_building::builtin_pool(alloc)?;
     Ok(DescriptorPool {
         inner: Rc::new(alloc, pool)?,
     })

@@ -1,5 +1,5 @@
 use Rattle.prost_reflect_dynamic.proofs.Common.{map, ap, sym, ◌∙◌, subst, schema_from, LinkedPool}
-use Rattle.prost_reflect_pool.specs.BuiltinFiles.{AreBuiltin}
+use Rattle.prost_reflect_building.specs.BuiltinFiles.{AreBuiltin}
 use Rattle.prost_reflect_pool.specs.Pools.{files_of, pool_rows}
 use Rattle.prost_reflect_dynamic.proofs.descriptor.builtin.builtin_pool.Goals as goal
 

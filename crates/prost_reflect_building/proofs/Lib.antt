@@ -1,0 +1,6 @@
+mod Common
+mod BuiltinFacts
+mod BuiltinFields
+mod BuiltinLinks
+mod BuiltinMessages
+mod BuiltinChecked

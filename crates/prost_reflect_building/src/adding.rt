@@ -1,0 +1,163 @@
+//! Adding files to pools.
+
+ghost use Rattle.std.specs.Prelude.{◌≡◌, ◌≢◌, ◌++◌, ◌∷◌, [], List, not, IsTrue, IfOk, IfErr, OnOk, OnErr};
+ghost use Rattle.prost_reflect_types.specs.DescriptorViews.{shared_files};
+ghost use Rattle.prost_reflect_types.specs.declared.FileDescriptorProto.{FileDescriptorProto};
+ghost use Rattle.prost_reflect_tables.specs.Adding.{is_there, added, AreNamesOf};
+ghost use Rattle.prost_reflect_tables.specs.Built.{AreTablesOf};
+ghost use Rattle.prost_reflect_tables.specs.Checked.{Stands};
+ghost use Rattle.prost_reflect_tables.specs.Flat.{flattened};
+ghost use Rattle.prost_reflect_tables.specs.FlatViews.{file_list};
+ghost use Rattle.prost_reflect_tables.specs.LinkedCatalog.{IsCatalogOf};
+ghost use Rattle.prost_reflect_tables.specs.Schema.{rows_of};
+ghost use Rattle.prost_reflect_tables.specs.declared.error.PoolError.TheVariants as pool_errors;
+ghost use Rattle.prost_reflect_pool.specs.FileNames.{names_differ};
+ghost use Rattle.prost_reflect_pool.specs.Pools.{files_of, IsPoolOf, RefusesFiles};
+
+use crate::building::build_tables;
+use prost_reflect_pool::LinkedPool;
+use prost_reflect_tables::{Catalog, PoolError, Tables, text_or_empty};
+use prost_reflect_types::FileDescriptorProto;
+use std::alloc::{AllocError, Global};
+use std::collections::BTreeSet;
+use std::rc::Rc;
+
+// FILES AND THEIR NAMES
+
+/// Handles of these files: each is shared once more, and no record is copied.
+fn shared(
+    alloc: Global,
+    files: &[Rc<FileDescriptorProto>],
+) -> Result<Vec<Rc<FileDescriptorProto>>, AllocError>
+    ensures { IfOk result (λ v. shared_files v.items ≡ shared_files files.now) }
+{
+    let mut copies = Vec::new(alloc);
+    for file in files {
+        copies.push(file.clone()?)?;
+    }
+    Ok(copies)
+}
+
+/// The files, lent.
+fn lent<'f>(
+    alloc: Global,
+    files: &'f [Rc<FileDescriptorProto>],
+) -> Result<Vec<&'f FileDescriptorProto>, AllocError>
+    ensures { IfOk result (λ v. file_list v.items ≡ shared_files files.now) }
+{
+    let mut lent = Vec::new(alloc);
+    for file in files {
+        let file: &'f FileDescriptorProto = file;
+        lent.push(file)?;
+    }
+    Ok(lent)
+}
+
+/// Adds the name of a file, if it has one, and answers whether it is new.
+fn add_name(
+    alloc: Global,
+    names: &mut BTreeSet<String>,
+    file: &FileDescriptorProto,
+) -> Result<bool, AllocError>
+    ensures new { IfOk result (λ new. (files : List FileDescriptorProto) → AreNamesOf files names.old → new ≡ not (is_there files file.now)) }
+    ensures names { OnOk result ((files : List FileDescriptorProto) → AreNamesOf files names.old → AreNamesOf (files ++ file.now ∷ []) names.new) }
+{
+    let name = text_or_empty(&file.name);
+    if name.is_empty() {
+        return Ok(true);
+    }
+    Ok(names.insert(String::from_str(alloc, name)?)?)
+}
+
+/// The names of files.
+fn names_of(
+    alloc: Global,
+    files: &[Rc<FileDescriptorProto>],
+) -> Result<BTreeSet<String>, AllocError>
+    ensures { IfOk result (AreNamesOf (shared_files files.now)) }
+{
+    let mut names = BTreeSet::new(alloc);
+    for file in files {
+        add_name(alloc, &mut names, file)?;
+    }
+    Ok(names)
+}
+
+/// Adds a file at the end, unless one of its name is there.
+fn add_file(
+    alloc: Global,
+    files: &mut Vec<Rc<FileDescriptorProto>>,
+    names: &mut BTreeSet<String>,
+    file: FileDescriptorProto,
+) -> Result<(), PoolError>
+    requires { AreNamesOf (shared_files files.old.items) names.old }
+    ensures names { OnOk result (AreNamesOf (shared_files files.new.items) names.new) }
+    ensures added { OnOk result ((batch : List FileDescriptorProto) → added (shared_files files.old.items) (file ∷ batch) ≡ added (shared_files files.new.items) batch) }
+    ensures differ { OnOk result (IsTrue (names_differ (shared_files files.old.items)) → IsTrue (names_differ (shared_files files.new.items))) }
+    ensures err { IfErr result (λ e. e ≡ pool_errors.OutOfMemory) }
+{
+    if add_name(alloc, names, &file)? {
+        files.push(Rc::new(alloc, file)?)?;
+    }
+    Ok(())
+}
+
+/// Adds the files of a batch that are not skipped, at the end.
+fn add_files(
+    alloc: Global,
+    files: &mut Vec<Rc<FileDescriptorProto>>,
+    batch: Vec<FileDescriptorProto>,
+) -> Result<(), PoolError>
+    ensures added { OnOk result (shared_files files.new.items ≡ added (shared_files files.old.items) batch.items) }
+    ensures differ { OnOk result (IsTrue (names_differ (shared_files files.old.items)) → IsTrue (names_differ (shared_files files.new.items))) }
+    ensures err { IfErr result (λ e. e ≡ pool_errors.OutOfMemory) }
+{
+    let mut names = names_of(alloc, files.as_slice())?;
+    for file in batch {
+        add_file(alloc, files, &mut names, file)?;
+    }
+    Ok(())
+}
+
+/// The tables of the files and their catalog, if they pass all checks.
+fn tables_of(
+    alloc: Global,
+    files: &[Rc<FileDescriptorProto>],
+) -> Result<(Tables, Catalog), PoolError>
+    ensures tables { IfOk result (λ t. AreTablesOf (shared_files files.now) (rows_of t.0)) }
+    ensures catalog { IfOk result (λ t. IsCatalogOf (shared_files files.now) t.1) }
+    ensures stands { IfErr result (λ e. e ≢ pool_errors.OutOfMemory → Stands e (shared_files files.now) (flattened (shared_files files.now))) }
+{
+    let lent = lent(alloc, files)?;
+    build_tables(alloc, lent.as_slice())
+}
+
+/// The files with their tables, if they pass all checks; no two have one name.
+fn inner_of(alloc: Global, files: Vec<Rc<FileDescriptorProto>>) -> Result<LinkedPool, PoolError>
+    requires { IsTrue (names_differ (shared_files files.items)) }
+    ensures files { IfOk result (λ inner. files_of inner ≡ shared_files files.items) }
+    ensures stands { IfErr result (λ e. e ≢ pool_errors.OutOfMemory → Stands e (shared_files files.items) (flattened (shared_files files.items))) }
+{
+    let (tables, catalog) = tables_of(alloc, files.as_slice())?;
+    Ok(LinkedPool::of(files, tables, catalog))
+}
+
+/// The pool of a pool's files and of those of the batch, in their order; they may depend on one another in any order.
+///
+/// A file of a name that is there already is skipped unchecked, and of several files of one name the first is taken.
+///
+/// # Errors
+///
+/// The name of a fault that the files of the pool have together with those that are added, or `OutOfMemory` if memory runs out.
+pub fn with_files(
+    pool: &LinkedPool,
+    batch: Vec<FileDescriptorProto>,
+) -> Result<LinkedPool, PoolError>
+    ensures ok { IfOk result (IsPoolOf (added (files_of pool.now) batch.items)) }
+    ensures refused { IfErr result (RefusesFiles (added (files_of pool.now) batch.items)) }
+{
+    let alloc = *batch.allocator();
+    let mut all = shared(alloc, pool.files())?;
+    add_files(alloc, &mut all, batch)?;
+    inner_of(alloc, all)
+}
