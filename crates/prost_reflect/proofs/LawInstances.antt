@@ -12,7 +12,7 @@ use Rattle.prost_reflect_wire.specs.Fault.{StandsInField}
 use Rattle.prost_reflect_wire.specs.declared.key.WireType.{WireType}
 use Rattle.prost_reflect_wire.specs.declared.key.WireType.TheVariants as wires
 use Rattle.prost_reflect_wire.specs.declared.error.DecodeError.TheVariants as errors
-use Rattle.prost_reflect_fields.specs.Items.{IsAscending}
+use Rattle.prost_reflect_maps.specs.Items.{IsAscending}
 use Rattle.prost_reflect_fields.specs.FieldSlots.{value_in, records_in, stored_at}
 use Rattle.prost_reflect_fields.specs.declared.slot.FieldSlot.{FieldSlot}
 use Rattle.prost_reflect_fields.specs.declared.slot.FieldSlot.TheVariants as slots

@@ -14,7 +14,7 @@ use Rattle.prost_reflect_laws.specs.Examples.Schemas.{examples}
 use Rattle.prost_reflect_laws.specs.Examples.Words.{hex}
 use Rattle.prost_reflect_laws.specs.Examples.Instances.{sample, stores_defaults}
 use Rattle.prost_reflect_pool.specs.declared.pooled_type.PooledType.{PooledType}
-use Rattle.prost_reflect_fields.specs.Items.{IsAscending}
+use Rattle.prost_reflect_maps.specs.Items.{IsAscending}
 use Rattle.prost_reflect_fields.specs.FieldSlots.{stored_at}
 use Rattle.prost_reflect_fields.specs.declared.slot.FieldSlot.{FieldSlot}
 use Rattle.prost_reflect_fields.specs.declared.slot.FieldSlot.TheVariants as slots

@@ -88,14 +88,15 @@ pub use Rattle.prost_reflect_pool.specs.declared.pool.LinkedPool.{LinkedPool}
 pub use Rattle.prost_reflect_pool.specs.declared.pooled_type.PooledType.{PooledType}
 pub use Rattle.prost_reflect_pool.proofs.EqualTypes.{rows_follow, rows_same}
 pub use Rattle.prost_reflect_fields.specs.FieldSlots.{UnknownAdded, has_value, left_in, numbered, put_slot, put_value, records_at, records_in, revalued, stored_at, then_slot, unknown_at, unknown_in, unknown_sets, value_alone, value_in, values_alone, values_where, with_slot, with_value_in, without_values}
-pub use Rattle.prost_reflect_fields.specs.Items.{IsAscending, item_at, put_item, with_item}
-pub use Rattle.prost_reflect_fields.specs.ItemsLeft.{items_left, items_left_back}
+pub use Rattle.prost_reflect_maps.specs.Items.{IsAscending, item_at, put_item, with_item}
+pub use Rattle.prost_reflect_maps.specs.ItemsLeft.{items_left, items_left_back}
 pub use Rattle.prost_reflect_fields.specs.Known.{all_kept, are_records_of, are_siblings, is_known, is_listed, keeps_unknown, known_of, oneof_of}
-pub use Rattle.prost_reflect_fields.specs.NumberSets.{AreReplaced, HasWholeOneofs, has, is_chosen, put_chosen}
+pub use Rattle.prost_reflect_maps.specs.NumberSets.{AreReplaced, has, is_chosen, put_chosen}
+pub use Rattle.prost_reflect_fields.specs.WholeOneofs.{HasWholeOneofs}
 pub use Rattle.prost_reflect_fields.specs.Sound.{IsSound, Sound, UnknownKept, prepared, set_value_at, unknown_kept}
 pub use Rattle.prost_reflect_fields.specs.declared.slot.FieldSlot.{FieldSlot}
 pub use Rattle.prost_reflect_fields.specs.formers.field_set.FieldSet.{slot_former, slot_weighed}
-pub use Rattle.prost_reflect_fields.proofs.ItemChanges.{Apart, apart_back, apart_of, at_each, by_number, itself, none_above, put_apart, put_same, with_apart, with_same}
+pub use Rattle.prost_reflect_maps.proofs.ItemChanges.{Apart, apart_back, apart_of, at_each, by_number, itself, none_above, put_apart, put_same, with_apart, with_same}
 pub use Rattle.prost_reflect_fields.proofs.Siblings.{siblings_back, siblings_self}
 pub use Rattle.prost_reflect_fields.proofs.SlotChanges.{ascending_put, ascending_with_value, ascending_without_values, item_without, records_without, value_without, value_written, value_written_apart}
 pub use Rattle.prost_reflect_dynamic.specs.Access.{HadContent, HasOneField, HasOneMember, IsDefaultAt, IsLentIf, IsLentOf, IsOwnField, IsStoredOr, NameFound, NameMissing, NumberFound, NumberMissing, TakesFound, had_at, has_at, is_field_number, left_at, left_if, number_declared, number_named, number_of, saying, says_nothing, takes, takes_at}

@@ -3,7 +3,7 @@ use Rattle.std.specs.Prelude.{◌≡◌}
 use Rattle.prost_reflect_dynamic.proofs.Common.{ℕ, Bool, true, false, cond, List, Option, Some, None, refl, ap, sym, ◌∙◌, subst, option_and_then, unwrap_or, Field, FieldSlot, has_value, with_value_in, revalued, left_in, put_slot, put_value, with_slot, IsAscending, item_at, known_of, are_siblings, set_value_at, prepared, Apart, by_number, apart_back, put_same, put_apart, with_same, with_apart, item_without, ascending_put, ascending_with_value, siblings_self, PooledType, IsStoredOr, DynamicMessage, Value, message_type_of, stored_in, written_at}
 use Rattle.prost_reflect_fields.specs.declared.slot.FieldSlot.TheVariants.{Value as ValueSlot, Unknown, Both}
 use Rattle.prost_reflect_fields.specs.FieldSlots.{with_value}
-use Rattle.prost_reflect_fields.proofs.ItemChanges.{same_items}
+use Rattle.prost_reflect_maps.proofs.ItemChanges.{same_items}
 use Rattle.prost_reflect_fields.proofs.SoundChanges.{ascending_set_at}
 use Rattle.prost_reflect_wire.specs.Content as contents
 

@@ -11,7 +11,7 @@ use Rattle.prost_reflect_tables.specs.Places.{row_of}
 use Rattle.prost_reflect_pool.specs.Lookups.{named_field}
 use Rattle.prost_reflect_pool.specs.MessageTypes.{schema_at, fields_of}
 use Rattle.prost_reflect_pool.specs.declared.pooled_type.PooledType.{PooledType}
-use Rattle.prost_reflect_fields.specs.Items.{IsAscending}
+use Rattle.prost_reflect_maps.specs.Items.{IsAscending}
 use Rattle.prost_reflect_fields.specs.Known.{known_of, are_siblings}
 use Rattle.prost_reflect_fields.specs.FieldSlots.{stored_at}
 use Rattle.prost_reflect_dynamic.specs.Named.{NamesEqual}

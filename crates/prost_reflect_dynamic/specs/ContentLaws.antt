@@ -11,7 +11,7 @@ use Rattle.prost_reflect_wire.specs.Content.{Content, Slot, Pairs, ScalarValue, 
 use Rattle.prost_reflect_wire.specs.Edit.{with_value}
 use Rattle.prost_reflect_wire.specs.Meaning.{put}
 use Rattle.prost_reflect_dynamic.specs.contracts.value.MapKeyOrd.TheImpl as key_order
-use Rattle.prost_reflect_fields.specs.Items.{IsAscending}
+use Rattle.prost_reflect_maps.specs.Items.{IsAscending}
 use Rattle.prost_reflect_fields.specs.FieldSlots.{stored_at, records_at}
 use Rattle.prost_reflect_dynamic.specs.View.{value_of, content_of, key_of, payloads_of, pairs_from, stored_in}
 use Rattle.prost_reflect_dynamic.specs.Contents.{value_set, value_cleared, unknown_added, with_unknown}

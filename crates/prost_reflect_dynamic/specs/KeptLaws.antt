@@ -5,7 +5,7 @@ use Rattle.prost_reflect_wire.specs.Schema.{Field, known, field_of, field_valid}
 use Rattle.prost_reflect_wire.specs.Content.{Content, Entries, Value, schema_of, type_of, entries_of, value_at, slot_at, table, numbers_in}
 use Rattle.prost_reflect_wire.specs.Typing.{kept, kept_inside}
 use Rattle.prost_reflect_wire.specs.Edit.{set_field, clear_field, cleared, default_value, WritingAccess, in_field}
-use Rattle.prost_reflect_fields.specs.Items.{IsAscending}
+use Rattle.prost_reflect_maps.specs.Items.{IsAscending}
 use Rattle.prost_reflect_dynamic.specs.View.{content_of, stored_in}
 use Rattle.prost_reflect_dynamic.specs.Contents.{in_entries, value_set, value_cleared, unknown_added}
 use Rattle.prost_reflect_dynamic.specs.declared.message.DynamicMessage.{DynamicMessage}

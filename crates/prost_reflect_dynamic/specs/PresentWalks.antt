@@ -6,7 +6,7 @@ use Rattle.prost_reflect_wire.specs.Schema.{Field}
 use Rattle.prost_reflect_wire.specs.Typing.{kept}
 use Rattle.prost_reflect_wire.specs.declared.unknown.UnknownFieldSet.{UnknownFieldSet}
 use Rattle.prost_reflect_pool.specs.declared.pooled_type.PooledType.{PooledType}
-use Rattle.prost_reflect_fields.specs.ItemsLeft.{items_left}
+use Rattle.prost_reflect_maps.specs.ItemsLeft.{items_left}
 use Rattle.prost_reflect_fields.specs.Known.{known_of}
 use Rattle.prost_reflect_fields.specs.FieldSlots.{unknown_at, unknown_in}
 use Rattle.prost_reflect_fields.specs.declared.slot.FieldSlot.{FieldSlot}

@@ -7,8 +7,8 @@ use Rattle.prost_reflect_wire.specs.Unknown.{unknown_record, unknown_fields_of}
 use Rattle.prost_reflect_wire.specs.declared.unknown.UnknownField.{UnknownField}
 use Rattle.prost_reflect_wire.specs.declared.unknown.UnknownFieldSet.{UnknownFieldSet}
 use Rattle.prost_reflect_fields.specs.FieldSlots.{unknown_in}
-use Rattle.prost_reflect_fields.specs.Items.{IsAscending}
-use Rattle.prost_reflect_fields.specs.ItemsLeft.{items_left}
+use Rattle.prost_reflect_maps.specs.Items.{IsAscending}
+use Rattle.prost_reflect_maps.specs.ItemsLeft.{items_left}
 use Rattle.prost_reflect_fields.specs.Sound.{IsSound}
 use Rattle.prost_reflect_fields.specs.declared.slot.FieldSlot.{FieldSlot}
 use Rattle.prost_reflect_dynamic.specs.View.{content_of, message_type_of, stored_in}

@@ -7,7 +7,7 @@ use Rattle.prost_reflect_dynamic.specs.Places.{GivesNext}
 use Rattle.prost_reflect_wire.specs.Schema.{Field}
 use Rattle.prost_reflect_wire.specs.Typing.{kept}
 use Rattle.prost_reflect_pool.specs.declared.pooled_type.PooledType.{PooledType}
-use Rattle.prost_reflect_fields.specs.ItemsLeft.{items_left}
+use Rattle.prost_reflect_maps.specs.ItemsLeft.{items_left}
 use Rattle.prost_reflect_fields.specs.Known.{known_of, is_listed}
 use Rattle.prost_reflect_fields.specs.FieldSlots.{value_in, numbered}
 use Rattle.prost_reflect_fields.specs.declared.slot.FieldSlot.{FieldSlot}

@@ -13,10 +13,11 @@ ghost use Rattle.prost_reflect_dynamic.specs.contracts.message.DynamicMessage.{t
 ghost use Rattle.prost_reflect_dynamic.specs.contracts.value.Value as value;
 ghost use Rattle.prost_reflect_pool.specs.MessageTypes.{schema_at, type_at, SameMessage};
 ghost use Rattle.prost_reflect_pool.specs.SharedPools.{pool_contents};
-ghost use Rattle.prost_reflect_fields.specs.Items.{IsAscending};
-ghost use Rattle.prost_reflect_fields.specs.ItemsLeft.{items_left};
+ghost use Rattle.prost_reflect_maps.specs.Items.{IsAscending};
+ghost use Rattle.prost_reflect_maps.specs.ItemsLeft.{items_left};
 ghost use Rattle.prost_reflect_fields.specs.Known.{known_of, is_known, keeps_unknown, oneof_of};
-ghost use Rattle.prost_reflect_fields.specs.NumberSets.{has, HasWholeOneofs};
+ghost use Rattle.prost_reflect_maps.specs.NumberSets.{has};
+ghost use Rattle.prost_reflect_fields.specs.WholeOneofs.{HasWholeOneofs};
 ghost use Rattle.prost_reflect_fields.specs.FieldSlots.{stored_at, records_at};
 ghost use Rattle.prost_reflect_fields.specs.Sound.{IsSound};
 ghost use Rattle.prost_reflect_dynamic.specs.declared.value.Value.{Value};
@@ -55,7 +56,7 @@ pub use lists::{Extensions, Fields, Present, PresentItems, TakenExtensions, Take
 pub use present::PresentNumber;
 use prost_reflect_fields::field_set::FieldSet;
 use prost_reflect_fields::slot::FieldSlot;
-use prost_reflect_fields::sorted_map::Items;
+use prost_reflect_maps::sorted_map::Items;
 use prost_reflect_pool::{LinkedPool, PooledType};
 use prost_reflect_wire::{UnknownField, UnknownFieldSet};
 pub use setting::SetFieldError;

@@ -1,7 +1,7 @@
 -- That each member that has a value is noted by a walk over all slots.
 use Rattle.std.specs.Prelude.{◌≡◌, ◌∷◌}
 use Rattle.prost_reflect_fields.proofs.Common.{ℕ, Bool, true, false, cond, nat_eq, List, [], Option, Some, None, refl, ap, sym, ◌∙◌, subst, true≢false, eq-eqb, ne_eqb, eqb-true, eqb-false, false_from_ne_true, option_and_then, is_some, nat_cmp, is_eq, IsStrictlySortedBy, Field, same_oneof, numbers_differ, FieldSlot, IsAscending, item_at, put_item, value_in, has_value, oneof_of, are_siblings, is_noted, is_member_of, NotesOwn, NotesWhole, AreNoted, note_under, with_note, OneofsSingle}
-use Rattle.prost_reflect_fields.proofs.ItemChanges.{Apart, by_number, itself, none_above}
+use Rattle.prost_reflect_maps.proofs.ItemChanges.{Apart, by_number, itself, none_above}
 use Rattle.prost_reflect_fields.proofs.OnlyMembers.{same_through, sibling_of}
 use Rattle.prost_reflect_fields.proofs.NotedMembers.{own_put, noted_put, noted_put_apart}
 

@@ -1,7 +1,4 @@
 mod Common
-mod Results
-mod Places
-pub mod ItemChanges
 pub mod SlotChanges
 pub mod Siblings
 pub mod SoundChanges
@@ -14,9 +11,4 @@ mod OnlyMembers
 mod NotedMembers
 mod AllNoted
 pub mod Replaced
-mod Weaving
-mod RunChanges
-mod Bounds
-mod Above
-mod Below
 mod WholeOneofs

@@ -1,7 +1,7 @@
 -- What a change of slots keeps of the notes beside them.
 use Rattle.std.specs.Prelude.{◌≡◌, ◌&&◌, ◌||◌}
 use Rattle.prost_reflect_fields.proofs.Common.{ℕ, Bool, true, false, cond, not, nat_eq, List, Option, Some, None, refl, ap, sym, ◌∙◌, subst, true≢false, eq-eqb, ne_eqb, eqb-true, eqb-false, false_from_ne_true, IfSome, unwrap_or, option_map, is_some, Field, same_oneof, numbers_differ, FieldSlot, IsAscending, item_at, put_item, stored_at, has_value, put_value, with_value, clear_value, without_values, oneof_of, are_siblings, OnlyMember, is_noted, is_member_of, NotesOwn, AreNoted, without_noted, set_value_at}
-use Rattle.prost_reflect_fields.proofs.ItemChanges.{apart_of, put_same, put_apart}
+use Rattle.prost_reflect_maps.proofs.ItemChanges.{apart_of, put_same, put_apart}
 use Rattle.prost_reflect_fields.proofs.SlotChanges.{ascending_put, value_put_apart, without_none}
 use Rattle.prost_reflect_fields.proofs.Siblings.{siblings_self}
 use Rattle.prost_reflect_fields.proofs.PresentSiblings.{others_are_siblings}

@@ -1,7 +1,7 @@
 -- Setting where it is known which member of a oneof can have a value.
 use Rattle.std.specs.Prelude.{◌≡◌, ◌||◌}
 use Rattle.prost_reflect_fields.proofs.Common.{ℕ, Bool, true, false, cond, not, nat_eq, List, Option, Some, None, refl, ap, sym, ◌∙◌, subst, true≢false, eq-eqb, ne_eqb, eqb-true, eqb-false, and_parts, and_from, option_and_then, is_some, Field, same_oneof, numbers_differ, FieldSlot, Value, Unknown, Both, IsAscending, item_at, value_in, left_in, has_value, put_value, clear_value, without_values, oneof_of, are_siblings, OnlyMember}
-use Rattle.prost_reflect_fields.proofs.ItemChanges.{apart_of, same_items}
+use Rattle.prost_reflect_maps.proofs.ItemChanges.{apart_of, same_items}
 use Rattle.prost_reflect_fields.proofs.SlotChanges.{item_without, ascending_without_values, value_put_apart}
 use Rattle.prost_reflect_fields.proofs.Siblings.{siblings_self}
 use Rattle.prost_reflect_fields.proofs.PresentSiblings.{others_are_siblings}

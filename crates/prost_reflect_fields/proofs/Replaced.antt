@@ -1,9 +1,9 @@
 -- Maps with what others have at the numbers of a set.
 use Rattle.std.specs.Prelude.{◌≡◌, ◌∷◌, ◌++◌}
 use Rattle.prost_reflect_fields.proofs.Common.{ℕ, Bool, true, false, cond, List, [], Option, Some, None, refl, ap, ap₂, sym, subst, ◌∙◌, true≢false, option_and_then, is_some, nat_cmp, is_eq, BTreeSet, IsStrictlySortedBy, Field, numbers_differ, FieldSlot, IsAscending, item_at, put_item, is_known, are_siblings, value_in, records_in, stored_at, records_at, Sound, unknown_kept, has, HasWholeOneofs, is_chosen, put_chosen, AreReplaced}
-use Rattle.prost_reflect_fields.proofs.ItemChanges.{Apart, by_number, put_same, put_apart, none_above, ascending_put_item, itself}
+use Rattle.prost_reflect_maps.proofs.ItemChanges.{Apart, by_number, put_same, put_apart, none_above, ascending_put_item, itself}
 use Rattle.prost_reflect_fields.proofs.Siblings.{siblings_back}
-use Rattle.prost_reflect_fields.proofs.Places.{empty_ascends}
+use Rattle.prost_reflect_maps.proofs.Places.{empty_ascends}
 
 module _ {T : Type 0} where
   abbrev else_at : Option T → Option T → Option T

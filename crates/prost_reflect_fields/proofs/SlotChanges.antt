@@ -3,7 +3,7 @@ use Rattle.std.specs.Prelude.{◌≡◌, ◌++◌, ◌||◌, ◌∷◌}
 use Rattle.prost_reflect_fields.proofs.Common.{unwrap_or, Bool, true, false, cond, ℕ, nat_eq, List, [], Option, None, Some, ap, sym, ◌∙◌, subst, refl, true≢false, eq-eqb, ne_eqb, option_and_then, option_map, is_some, nat_cmp, is_eq, Less, AllByRecursion, IsStrictlySortedBy, keys_of, records_of, FieldSlot, Value, Unknown, Both, IsAscending, item_at, with_item, put_item, without_item, value_in, records_in, stored_at, records_at, with_value_in, without_value_beside, revalued, put_slot, put_value, left_in, then_slot, without_values, clear_value, with_slot, with_value, AddedIn, SameIn, SameStored, UnknownAdded}
 use Rattle.prost_reflect_wire.specs.Record.{Record}
 use Rattle.prost_reflect_wire.specs.declared.unknown.UnknownFieldSet.{UnknownFieldSet}
-use Rattle.prost_reflect_fields.proofs.ItemChanges.{Apart, by_number, at_each, apart_of, apart_back, itself, none_above, same_items, put_same, put_apart, without_same, without_apart, with_same, with_apart, ascending_without, ascending_with, ascending_put_item}
+use Rattle.prost_reflect_maps.proofs.ItemChanges.{Apart, by_number, at_each, apart_of, apart_back, itself, none_above, same_items, put_same, put_apart, without_same, without_apart, with_same, with_apart, ascending_without, ascending_with, ascending_put_item}
 
 module _ {V : Type 0} where
   -- what one lookup says of another

@@ -3,7 +3,7 @@ use Rattle.std.specs.Prelude.{◌≡◌, ◌++◌, ◌∷◌}
 use Rattle.prost_reflect_fields.proofs.Common.{unwrap_or, Bool, true, false, cond, ℕ, nat_eq, List, [], Option, None, Some, ap, sym, ◌∙◌, subst, refl, true≢false, eq-eqb, eqb-true, eqb-false, and_parts, and_from, false_from_ne_true, option_and_then, option_map, is_some, list_all, Field, numbers_differ, FieldSlot, IsAscending, item_at, with_item, is_known, are_siblings, keeps_unknown, all_kept, are_records_of, value_in, records_in, stored_at, records_at, has_value, revalued, put_value, without_values, with_value, with_slot, SameStored, UnknownAdded, OneofsSingle, Sound, unknown_kept, set_value_at, prepared}
 use Rattle.prost_reflect_wire.specs.Record.{Record}
 use Rattle.prost_reflect_wire.proofs.Deeper.{all_append}
-use Rattle.prost_reflect_fields.proofs.ItemChanges.{at_each, apart_of, with_same, with_apart, not_both}
+use Rattle.prost_reflect_maps.proofs.ItemChanges.{at_each, apart_of, with_same, with_apart, not_both}
 use Rattle.prost_reflect_fields.proofs.SlotChanges.{value_without, records_without, ascending_put, value_put, value_put_apart, records_put, same_values, same_records, value_kept, records_kept, ascending_without_values, ascending_with_value, value_written, value_written_apart, records_written}
 use Rattle.prost_reflect_fields.proofs.Siblings.{siblings_back, siblings_self}
 

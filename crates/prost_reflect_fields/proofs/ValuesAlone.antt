@@ -1,7 +1,7 @@
 -- What stands at each number once the unknown fields are taken.
 use Rattle.std.specs.Prelude.{◌≡◌, ◌++◌, ◌∷◌}
 use Rattle.prost_reflect_fields.proofs.Common.{cond, ℕ, List, [], Option, None, Some, ap, sym, ◌∙◌, subst, refl, option_and_then, option_map, option_to_list, is_some, nat_cmp, is_eq, Less, AllByRecursion, IsStrictlySortedBy, keys_of, Field, FieldSlot, Value, Unknown, Both, IsAscending, item_at, value_in, records_in, stored_at, records_at, values_alone, Sound, unknown_kept}
-use Rattle.prost_reflect_fields.proofs.ItemChanges.{Apart, by_number, itself, none_above}
+use Rattle.prost_reflect_maps.proofs.ItemChanges.{Apart, by_number, itself, none_above}
 
 module _ {V : Type 0} where
   -- a value in front of what stands behind it

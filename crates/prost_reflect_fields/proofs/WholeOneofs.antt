@@ -2,7 +2,7 @@
 use Rattle.std.specs.Prelude.{◌≡◌, ◌&&◌, ◌||◌, ◌∷◌}
 use Rattle.prost_reflect_fields.proofs.Common.{ℕ, Bool, true, false, cond, not, nat_eq, List, [], map, Option, Some, None, refl, ap, sym, subst, ◌∙◌, true≢false, eqb-true, eq-eqb, ne_eqb, and_parts, or_left, or_right, list_any, option_and_then, nat_cmp, is_eq, BTreeSet, contains, Field, field_of, is_sibling, same_oneof, passes, numbers_differ, field_row, PooledType, fields_of, known_of, oneof_of, are_siblings, rows_at, HasMembers, has, HasWholeOneofs, is_in_oneof}
 use Rattle.prost_reflect_tables.specs.declared.tables.FieldTable.{FieldTable}
-use Rattle.prost_reflect_fields.proofs.ItemChanges.{by_number, itself}
+use Rattle.prost_reflect_maps.proofs.ItemChanges.{by_number, itself}
 use Rattle.prost_reflect_fields.proofs.Siblings.{known_differ, found_passes}
 use Rattle.prost_reflect_fields.proofs.MembersCleared.{members_known}
 

@@ -1,14 +1,9 @@
-pub mod Items
-pub mod Runs
-pub mod Held
-pub mod ItemLists
-pub mod ItemsLeft
 pub mod FieldSlots
 pub mod Known
 pub mod Sound
 pub mod Members
 pub mod Noted
 pub mod Lending
-pub mod NumberSets
+pub mod WholeOneofs
 pub mod Codes
 pub mod formers

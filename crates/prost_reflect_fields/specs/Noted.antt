@@ -1,7 +1,7 @@
 -- What is noted beside the slots of a message: under each oneof, its member that has a value.
 use Rattle.std.specs.Prelude.{◌≡◌, ℕ, Bool, true, false, ⊤, nat_eq, List, Option, None, Some, option_map, unwrap_or, is_some, if◌then◌else◌}
 use Rattle.prost_reflect_wire.specs.Schema.{Field, same_oneof}
-use Rattle.prost_reflect_fields.specs.Items.{item_at, put_item}
+use Rattle.prost_reflect_maps.specs.Items.{item_at, put_item}
 use Rattle.prost_reflect_fields.specs.FieldSlots.{value_in, has_value, clear_value}
 use Rattle.prost_reflect_fields.specs.Known.{oneof_of}
 use Rattle.prost_reflect_fields.specs.declared.slot.FieldSlot.{FieldSlot}

@@ -5,23 +5,16 @@
 //! call that runs out of memory changes nothing.
 //!
 //! Begin with `field_set`. Below it `stored` says what setting, taking and lending make of all slots, over any map from numbers
-//! (`number_map`, a trait with laws), and `slot_map` that behind a call that sets a value at most one member of each oneof has one,
-//! whatever the map. `walks` goes over all items of any such map, up and down; `sorted_map` is the map that messages hold, one
-//! list (`items`) or sorted runs (`runs`).
+//! (`NumberMap` of `prost_reflect_maps`, a trait with laws), and `slot_map` that behind a call that sets a value at most one member
+//! of each oneof has one, whatever the map.
 #![tactic(auto)]
 
-pub mod boxed;
 pub mod field_set;
-pub mod items;
 mod members;
 mod noting;
-pub mod number_map;
 pub mod number_sets;
 pub mod parting;
-mod runs;
 pub mod slot;
 pub mod slot_map;
-pub mod sorted_map;
 pub mod stored;
 mod taking;
-pub mod walks;

@@ -1,15 +1,15 @@
 //! Notes of the members of oneofs that have values.
 
 ghost use Rattle.std.specs.Prelude.{◌≡◌, Some, IfOk, OnOk};
-ghost use Rattle.prost_reflect_fields.specs.Items.{IsAscending};
-ghost use Rattle.prost_reflect_fields.specs.ItemsLeft.{items_left};
+ghost use Rattle.prost_reflect_maps.specs.Items.{IsAscending};
+ghost use Rattle.prost_reflect_maps.specs.ItemsLeft.{items_left};
 ghost use Rattle.prost_reflect_fields.specs.Known.{known_of};
 ghost use Rattle.prost_reflect_fields.specs.Noted.{AreNoted, with_note};
 ghost use Rattle.prost_reflect_fields.specs.Sound.{OneofsSingle};
 
 use crate::slot::FieldSlot;
-use crate::sorted_map::Items;
 use crate::stored::oneof_of;
+use prost_reflect_maps::sorted_map::Items;
 use prost_reflect_pool::PooledType;
 use std::alloc::{AllocError, Global};
 use std::collections::BTreeMap;

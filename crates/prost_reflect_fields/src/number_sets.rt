@@ -3,7 +3,8 @@
 ghost use Rattle.std.specs.Prelude.{◌≡◌, ◌||◌, ◌∷◌, [], ℕ, true, OnOk};
 ghost use Rattle.prost_reflect_fields.specs.Members.{rows_at};
 ghost use Rattle.prost_reflect_fields.specs.Known.{known_of};
-ghost use Rattle.prost_reflect_fields.specs.NumberSets.{has, HasWholeOneofs, is_in_oneof};
+ghost use Rattle.prost_reflect_maps.specs.NumberSets.{has};
+ghost use Rattle.prost_reflect_fields.specs.WholeOneofs.{HasWholeOneofs, is_in_oneof};
 
 use crate::members::member_places;
 use crate::stored::{is_same_oneof, oneof_of};

@@ -4,8 +4,8 @@ ghost use Rattle.std.specs.Prelude.{◌≡◌, ◌+◌, ◌<◌, ◌≤◌, ◌+
 ghost use Rattle.prost_reflect_fields.specs.Known.{known_of, is_listed};
 ghost use Rattle.prost_reflect_fields.specs.FieldSlots.{left_in, numbered, value_in, values_where, without_values};
 
-use crate::items::push_last;
 use crate::slot::FieldSlot;
+use prost_reflect_maps::items::push_last;
 use prost_reflect_pool::PooledType;
 
 /// The values at the numbers of fields, or those at the numbers of extensions, and the slots that are left. There is room for

@@ -7,7 +7,7 @@ ghost use Rattle.prost_reflect_wire.specs.Unknown.{unknown_record};
 ghost use Rattle.prost_reflect_fields.specs.contracts.slot.FieldSlot.{the_row};
 ghost use Rattle.prost_reflect_fields.specs.FieldSlots.{value_in, unknown_in, with_value_in, revalued, value_beside, without_value_beside, AddedIn, SameIn};
 
-use crate::boxed::Boxed;
+use prost_reflect_maps::boxed::Boxed;
 use prost_reflect_wire::{UnknownField, UnknownFieldSet};
 use std::alloc::{AllocError, Global};
 use std::mem;

@@ -2,17 +2,17 @@
 
 ghost use Rattle.std.specs.Prelude.{◌≡◌, OnOk, OnErr, IfOk, Some};
 ghost use Rattle.std.specs.Borrow.{sem};
-ghost use Rattle.prost_reflect_fields.specs.Items.{IsAscending};
+ghost use Rattle.prost_reflect_maps.specs.Items.{IsAscending};
 ghost use Rattle.prost_reflect_fields.specs.Known.{known_of, oneof_of};
 ghost use Rattle.prost_reflect_fields.specs.FieldSlots.{stored_at};
 ghost use Rattle.prost_reflect_fields.specs.Sound.{set_value_at, prepared, KeepsOneofs};
 ghost use Rattle.prost_reflect_fields.specs.Noted.{AreNoted};
 ghost use Rattle.prost_reflect_fields.specs.Lending.{LendsValue};
 
-use crate::number_map::NumberMap;
 use crate::slot::FieldSlot;
-use crate::sorted_map::SortedMap;
 use crate::stored::{set_value, value_mut_or};
+use prost_reflect_maps::number_map::NumberMap;
+use prost_reflect_maps::sorted_map::SortedMap;
 use prost_reflect_pool::PooledType;
 use std::alloc::{AllocError, Global};
 use std::collections::BTreeMap;

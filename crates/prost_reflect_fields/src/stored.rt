@@ -5,7 +5,7 @@ ghost use Rattle.std.specs.Borrow.{LendsSo, sem};
 ghost use Rattle.std.specs.Option.{option_copied, option_copied_mut};
 ghost use Rattle.prost_reflect_wire.specs.Unknown.{unknown_record};
 ghost use Rattle.prost_reflect_wire.specs.Schema.{same_oneof};
-ghost use Rattle.prost_reflect_fields.specs.Items.{IsAscending, put_item};
+ghost use Rattle.prost_reflect_maps.specs.Items.{IsAscending, put_item};
 ghost use Rattle.prost_reflect_fields.specs.Known.{known_of, oneof_of, are_siblings, is_other_member};
 ghost use Rattle.prost_reflect_fields.specs.FieldSlots.{stored_at, unknown_at, put_value, clear_value, with_value, without_values, first_value, UnknownAdded, SameStored};
 ghost use Rattle.prost_reflect_fields.specs.Sound.{set_value_at, prepared, KeepsOneofs};
@@ -14,8 +14,8 @@ ghost use Rattle.prost_reflect_fields.specs.Noted.{AreNoted, without_noted};
 ghost use Rattle.prost_reflect_fields.specs.Lending.{LendsValue};
 
 use crate::members::member_places;
-use crate::number_map::{NumberMap, ascending};
 use crate::slot::FieldSlot;
+use prost_reflect_maps::number_map::{NumberMap, ascending};
 use prost_reflect_pool::PooledType;
 use prost_reflect_tables::FieldTable;
 use prost_reflect_wire::{UnknownField, UnknownFieldSet};

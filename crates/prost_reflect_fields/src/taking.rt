@@ -1,13 +1,13 @@
 //! Taking the unknown fields of all numbers.
 
 ghost use Rattle.std.specs.Prelude.{◌≡◌, ◌++◌, ◌<◌, ◌≤◌, ◌+◌, ◌∷◌, [], None, vec_capacity, vec_len, IfOk, OnErr, OnOk};
-ghost use Rattle.prost_reflect_fields.specs.Items.{IsAscending};
+ghost use Rattle.prost_reflect_maps.specs.Items.{IsAscending};
 ghost use Rattle.prost_reflect_fields.specs.FieldSlots.{unknown_in_slot, unknown_sets, value_alone, values_alone};
 
-use crate::boxed::Boxed;
-use crate::items::{ItemList, push_last};
 use crate::slot::FieldSlot;
-use crate::sorted_map::SortedMap;
+use prost_reflect_maps::boxed::Boxed;
+use prost_reflect_maps::items::{ItemList, push_last};
+use prost_reflect_maps::sorted_map::SortedMap;
 use prost_reflect_wire::UnknownFieldSet;
 use std::alloc::{AllocError, Global};
 

@@ -4,14 +4,14 @@ ghost use Rattle.std.specs.Prelude.{◌≡◌, IfOk, map as each, reverse};
 ghost use Rattle.std.specs.Map.{keys_of};
 
 use crate::choices::choices;
-use prost_reflect_fields::number_map::NumberMap;
 use prost_reflect_fields::slot::FieldSlot;
 use prost_reflect_fields::slot_map::SlotMap;
-use prost_reflect_fields::sorted_map::SortedMap;
 use prost_reflect_fields::stored::{
     add_unknown, oneof_of, stored_at, take_value, unknown_at, value_mut,
 };
-use prost_reflect_fields::walks::{walk_down, walk_up};
+use prost_reflect_maps::number_map::NumberMap;
+use prost_reflect_maps::sorted_map::SortedMap;
+use prost_reflect_maps::walks::{walk_down, walk_up};
 use prost_reflect_pool::PooledType;
 use prost_reflect_samples::calls::{Call, calls};
 use prost_reflect_wire::{DecodeError, UnknownField};

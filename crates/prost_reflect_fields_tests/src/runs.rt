@@ -1,6 +1,6 @@
 //! A map from numbers that is parted into runs.
 
-use prost_reflect_fields::sorted_map::SortedMap;
+use prost_reflect_maps::sorted_map::SortedMap;
 use std::test::Fail;
 
 /// The multiples of 617 by 1009 leave each number below 1009, in an order that neither rises nor falls.

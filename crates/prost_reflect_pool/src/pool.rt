@@ -78,11 +78,7 @@ impl LinkedPool {
     }
 
     /// The pool of files that pass all checks, with the tables that they link to and their catalog.
-    pub fn of(
-        files: Vec<Rc<FileDescriptorProto>>,
-        tables: Tables,
-        catalog: Catalog,
-    ) -> LinkedPool
+    pub fn of(files: Vec<Rc<FileDescriptorProto>>, tables: Tables, catalog: Catalog) -> LinkedPool
         requires built { AreTablesOf (shared_files files.items) (rows_of tables) }
         requires listed { IsCatalogOf (shared_files files.items) catalog }
         requires names { IsTrue (names_differ (shared_files files.items)) }

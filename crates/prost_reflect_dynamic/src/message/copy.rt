@@ -3,7 +3,7 @@
 ghost use Rattle.std.specs.Prelude.{◌≡◌, IfOk, map};
 ghost use Rattle.prost_reflect_wire.specs.Edit.{cleared};
 ghost use Rattle.prost_reflect_pool.specs.MessageTypes.{SameMessage};
-ghost use Rattle.prost_reflect_fields.specs.NumberSets.{has};
+ghost use Rattle.prost_reflect_maps.specs.NumberSets.{has};
 ghost use Rattle.prost_reflect_dynamic.specs.View.{content_of, message_type_of};
 ghost use Rattle.prost_reflect_dynamic.specs.Merged.{IsJoined};
 ghost use Rattle.prost_reflect_dynamic.specs.Copies.{SameStored, SameStoring, SameSlot, pairs_seen};
@@ -12,10 +12,10 @@ ghost use Rattle.prost_reflect_dynamic.specs.TypedSteps.{StaysTyped};
 
 use crate::message::DynamicMessage;
 use crate::value::{MapKey, Value};
-use prost_reflect_fields::boxed::Boxed;
 use prost_reflect_fields::field_set::FieldSet;
 use prost_reflect_fields::slot::FieldSlot;
-use prost_reflect_fields::sorted_map::SortedMap;
+use prost_reflect_maps::boxed::Boxed;
+use prost_reflect_maps::sorted_map::SortedMap;
 use std::alloc::{AllocError, Global};
 use std::collections::{BTreeMap, BTreeSet};
 use std::default::Emptied;

@@ -9,7 +9,7 @@ ghost use Rattle.prost_reflect_wire.specs.Fault.{StandsInMessage};
 ghost use Rattle.prost_reflect_wire.specs.Decoding.{Holds};
 ghost use Rattle.prost_reflect_pool.specs.MessageTypes.{schema_at, type_at, SameMessage};
 ghost use Rattle.prost_reflect_fields.specs.Known.{known_of};
-ghost use Rattle.prost_reflect_fields.specs.NumberSets.{HasWholeOneofs};
+ghost use Rattle.prost_reflect_fields.specs.WholeOneofs.{HasWholeOneofs};
 ghost use Rattle.prost_reflect_dynamic.specs.Merged.{MergesMeaning, HasNumbersOf, BeginsWith};
 ghost use Rattle.prost_reflect_dynamic.specs.View.{content_of, message_type_of};
 ghost use Rattle.prost_reflect_dynamic.specs.DeepTypes.{all_typed};

@@ -3,7 +3,7 @@
 ghost use Rattle.std.specs.Prelude.{◌≡◌, true, false, IfSome};
 ghost use Rattle.std.specs.Option.{option_copied};
 ghost use Rattle.std.specs.Iterator.{YieldsFirstBy};
-ghost use Rattle.prost_reflect_fields.specs.Items.{IsAscending};
+ghost use Rattle.prost_reflect_maps.specs.Items.{IsAscending};
 ghost use Rattle.prost_reflect_fields.specs.Known.{known_of, is_listed};
 ghost use Rattle.prost_reflect_dynamic.specs.ValueLists.{had_in, had_pairs, values_left, fields_left, extensions_left, fields_steps, extensions_steps};
 ghost use Rattle.prost_reflect_dynamic.specs.Access.{IsOwnField, number_of};
@@ -19,7 +19,7 @@ use crate::message::defaults::is_field_default;
 use crate::message::lists::descriptors::{extension_at, field_at};
 use crate::value::Value;
 use prost_reflect_fields::slot::FieldSlot;
-use prost_reflect_fields::sorted_map::Items;
+use prost_reflect_maps::sorted_map::Items;
 use prost_reflect_pool::PooledType;
 use std::alloc::AllocError;
 

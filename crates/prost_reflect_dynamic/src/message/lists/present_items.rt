@@ -14,7 +14,7 @@ use crate::message::lists::descriptors::{extension_at, field_at};
 use crate::message::lists::had::had_in;
 use crate::value::Value;
 use prost_reflect_fields::slot::FieldSlot;
-use prost_reflect_fields::sorted_map::Items;
+use prost_reflect_maps::sorted_map::Items;
 use prost_reflect_pool::PooledType;
 use prost_reflect_wire::UnknownFieldSet;
 use std::alloc::AllocError;

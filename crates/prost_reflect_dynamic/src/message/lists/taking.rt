@@ -2,7 +2,7 @@
 
 ghost use Rattle.std.specs.Prelude.{◌≡◌, ◌<◌, ◌≤◌, ◌+◌, false, true, [], length, map, zip, All, IfOk, OnOk, OnErr, vec_capacity, vec_len};
 ghost use Rattle.std.specs.Vec.Iter.{into_iter_items};
-ghost use Rattle.prost_reflect_fields.specs.Items.{IsAscending};
+ghost use Rattle.prost_reflect_maps.specs.Items.{IsAscending};
 ghost use Rattle.prost_reflect_fields.specs.Known.{known_of, is_listed};
 ghost use Rattle.prost_reflect_dynamic.specs.Access.{IsOwnField, number_of};
 ghost use Rattle.prost_reflect_dynamic.specs.Contents.{values_taken};
@@ -19,7 +19,7 @@ use crate::message::DynamicMessage;
 use crate::message::access::saying;
 use crate::message::lists::descriptors::{extension_at, field_at};
 use crate::value::Value;
-use prost_reflect_fields::items::push_last;
+use prost_reflect_maps::items::push_last;
 use prost_reflect_pool::PooledType;
 use std::alloc::{AllocError, Global};
 use std::vec::IntoIter;

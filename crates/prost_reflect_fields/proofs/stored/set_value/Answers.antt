@@ -1,6 +1,6 @@
 use Rattle.prost_reflect_fields.proofs.Common.{sym, subst, ◌∙◌, on_ok_weaker, known_of, OneofsSingle}
 use Rattle.prost_reflect_fields.proofs.NotedMembers.{set_alone, noted_alone, noted_after}
-use Rattle.prost_reflect_fields.proofs.Results.{either}
+use Rattle.prost_reflect_maps.proofs.Results.{either}
 use Rattle.prost_reflect_fields.proofs.Siblings.{known_differ}
 use Rattle.prost_reflect_fields.proofs.SoundChanges.{single_set}
 use Rattle.prost_reflect_fields.proofs.stored.set_value.Goals as goal

@@ -15,7 +15,7 @@ use Rattle.std.specs.Ordering.{nat_cmp}
 use Rattle.std.specs.BTreeMap.{is_at}
 use Rattle.prost_reflect_wire.specs.Schema.{Field}
 use Rattle.prost_reflect_pool.specs.declared.pooled_type.PooledType.{PooledType}
-use Rattle.prost_reflect_fields.specs.Items.{item_at}
+use Rattle.prost_reflect_maps.specs.Items.{item_at}
 use Rattle.prost_reflect_fields.specs.FieldSlots.{value_in, records_in, records_at, has_value}
 use Rattle.prost_reflect_fields.specs.Sound.{Sound, unknown_kept}
 use Rattle.prost_reflect_fields.specs.Noted.{AreNoted}
@@ -25,7 +25,7 @@ use Rattle.prost_reflect_fields.specs.declared.slot.FieldSlot.TheVariants.{Value
 use Rattle.prost_reflect_fields.specs.Codes.{split, join, join-split, split-join, slot_code}
 use Rattle.prost_reflect_fields.specs.contracts.slot.FieldSlot as E
 use Rattle.prost_reflect_wire.specs.contracts.unknown.UnknownFieldSet as unknown
-use Rattle.prost_reflect_fields.specs.formers.sorted_map.SortedMap as sorted
+use Rattle.prost_reflect_maps.specs.formers.sorted_map.SortedMap as sorted
 use Rattle.prost_reflect_fields.specs.declared.field_set.FieldSet.TheInside.{Inside}
 use Rattle.prost_reflect_fields.specs.declared.field_set.FieldSet.TheView.{view, invariant}
 use Rattle.prost_reflect_fields.specs.contracts.field_set.FieldSet as C

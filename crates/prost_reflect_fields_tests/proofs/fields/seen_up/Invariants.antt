@@ -1,7 +1,7 @@
 use Rattle.std.specs.Prelude.{◌≡◌, ◌++◌}
 use Rattle.std.specs.Map.{keys_of}
 use Rattle.std.proofs.Common.{map}
-use Rattle.prost_reflect_fields.specs.ItemsLeft.{left_up}
+use Rattle.prost_reflect_maps.specs.ItemsLeft.{left_up}
 use Rattle.prost_reflect_fields_tests.proofs.fields.seen_up.Given as goal
 
 abbrev pub invariant-loop-number : goal.invariant-loop-number

@@ -2,7 +2,7 @@ use Rattle.std.specs.Prelude.{◌≡◌}
 use Rattle.prost_reflect_fields.proofs.Common.{true, refl, sym, ◌∙◌, ap, subst, unknown_record, known_of, keeps_unknown}
 use Rattle.prost_reflect_fields.proofs.NotedMembers.{noted_after, noted_stored}
 use Rattle.prost_reflect_fields.proofs.SoundChanges.{sound_added, sound_stored}
-use Rattle.prost_reflect_fields.proofs.Results.{either}
+use Rattle.prost_reflect_maps.proofs.Results.{either}
 use Rattle.prost_reflect_fields.proofs.field_set.FieldSet.add_unknown.Goals as goal
 
 pub invariant_of-self : goal.invariant_of-self

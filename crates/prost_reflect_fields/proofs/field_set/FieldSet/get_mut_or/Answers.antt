@@ -6,7 +6,7 @@ use Rattle.std.specs.Borrow.{MutBor, name_if_ok}
 use Rattle.std.specs.Result.{OnOk, OnErr, IfOk}
 use Rattle.prost_reflect_fields.proofs.Siblings.{known_differ}
 use Rattle.prost_reflect_fields.proofs.SoundChanges.{sound_written, sound_prepared}
-use Rattle.prost_reflect_fields.proofs.Results.{either}
+use Rattle.prost_reflect_maps.proofs.Results.{either}
 use Rattle.prost_reflect_fields.proofs.field_set.FieldSet.get_mut_or.Goals as goal
 
 pub invariant_of-self-lent : goal.invariant_of-self-lent

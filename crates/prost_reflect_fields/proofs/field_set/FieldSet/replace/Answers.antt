@@ -2,7 +2,7 @@ use Rattle.std.specs.Prelude.{◌≡◌}
 use Rattle.prost_reflect_fields.proofs.Common.{ℕ, List, sym, ◌∙◌, ap, subst, PooledType, FieldSlot, known_of, AreNoted, Sound, HasWholeOneofs}
 use Rattle.prost_reflect_fields.proofs.Siblings.{known_differ}
 use Rattle.prost_reflect_fields.proofs.Replaced.{sound_replaced}
-use Rattle.prost_reflect_fields.proofs.Results.{either_both}
+use Rattle.prost_reflect_maps.proofs.Results.{either_both}
 use Rattle.prost_reflect_fields.proofs.field_set.FieldSet.replace.Goals as goal
 
 pub invariant_of-self : goal.invariant_of-self

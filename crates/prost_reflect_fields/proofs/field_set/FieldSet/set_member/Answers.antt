@@ -2,7 +2,7 @@ use Rattle.std.specs.Prelude.{◌≡◌}
 use Rattle.prost_reflect_fields.proofs.Common.{true, sym, subst, ◌∙◌, known_of, is_known, Sound}
 use Rattle.prost_reflect_fields.proofs.Siblings.{known_differ}
 use Rattle.prost_reflect_fields.proofs.SoundChanges.{sound_set}
-use Rattle.prost_reflect_fields.proofs.Results.{either}
+use Rattle.prost_reflect_maps.proofs.Results.{either}
 use Rattle.prost_reflect_fields.proofs.field_set.FieldSet.set_member.Goals as goal
 use Rattle.prost_reflect_fields.proofs.field_set.FieldSet.set_member.Goals.{then-is_some, else-is_some}
 

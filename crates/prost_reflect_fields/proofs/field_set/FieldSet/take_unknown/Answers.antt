@@ -1,6 +1,6 @@
 use Rattle.prost_reflect_fields.proofs.Common.{sym, subst, known_of, AreNoted, Sound}
 use Rattle.prost_reflect_fields.proofs.ValuesAlone.{sound_alone}
-use Rattle.prost_reflect_fields.proofs.Results.{either}
+use Rattle.prost_reflect_maps.proofs.Results.{either}
 use Rattle.prost_reflect_fields.proofs.field_set.FieldSet.take_unknown.Goals as goal
 
 pub invariant_of-self : goal.invariant_of-self

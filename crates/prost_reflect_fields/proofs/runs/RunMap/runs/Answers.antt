@@ -1,6 +1,0 @@
-use Rattle.prost_reflect_fields.proofs.Common.{ℕ, List, Option, subst, IsAscending}
-use Rattle.prost_reflect_fields.proofs.RunChanges.{flat_ascends}
-use Rattle.prost_reflect_fields.proofs.runs.RunMap.runs.Goals as goal
-
-pub returns-clause-ascending : goal.returns-clause-ascending
-returns-clause-ascending g c = subst (λ (held : List (ℕ × g.row.T.Denot) × Option (List (ℕ × ℕ))). IsAscending held.0) c.self.view_is (flat_ascends c.self.inside.runs.items c.self.invariant)

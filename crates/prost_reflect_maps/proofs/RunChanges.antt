@@ -1,0 +1,524 @@
+-- What a change in one run of a map leaves of all its items.
+use Rattle.std.specs.Prelude.{◌≡◌, ◌+◌, ◌<◌, ◌∷◌, ◌++◌}
+use Rattle.prost_reflect_maps.proofs.Common.{true, false, Bool, cond, ℕ, zero, suc, List, [], length, take, drop, slice_index_or, slice_set, None, Some, Result, Ok, Err, Vec, ap, ap₂, sym, ◌∙◌, subst, refl, append_assoc, arith, append-nil, exact_unsigned, common_steps, nat_cmp_total, nat_cmp, is_eq, is_le, ordering_reverse, match_ordering, Ordering, Less, Equal, Greater, AllByRecursion, insert, IsStrictlySortedBy, keys_of, seek, one_further, IsAscending, item_at, with_item, put_item, without_item, IsAhead, Runs, marks, flat, IsLaid, run_at}
+use Rattle.std.specs.declared.alloc.Global.{Global}
+use Rattle.prost_reflect_maps.proofs.ItemChanges.{none_above, all_later, itself, all_put, all_without, ascending_put_item, ascending_without}
+use Rattle.prost_reflect_maps.proofs.Places.{keys-set, number_kept, set_is, with_found, item_found, item_absent, seek_within, value_got}
+use Rattle.prost_reflect_maps.proofs.Weaving.{AllAbove, or_else, or_none, item_appended, all_left, all_right, all_both, ascending_left, ascending_right}
+
+-- below the first run that is not beyond the number
+passed : (n : ℕ) (ks : List ℕ) (q : ℕ) → AllByRecursion (λ k. nat_cmp k q ≡ Less) ks → is_le (nat_cmp q n) ≡ true → AllByRecursion (λ y. nat_cmp n y ≡ Greater) ks
+passed n [] q all h = tt
+passed n (k ∷ ks) q all h = (nat_cmp_total.antisymm n k ∙ ap ordering_reverse (less (nat_cmp q n) refl h), passed n ks q all.1 h)
+  where
+    less : (o : Ordering) → nat_cmp q n ≡ o → is_le o ≡ true → nat_cmp k n ≡ Less
+    less Less at h = nat_cmp_total.trans k q n all.0 at
+    less Equal at h = subst (λ z. nat_cmp k z ≡ Less) (exact_unsigned q n at) all.0
+    less Greater at h = cc
+
+some_is : (i j : ℕ) → Some i ≡ Some j → j ≡ i
+some_is i j e = cc
+
+-- a number that is not above the first of them is below what is above it
+ahead_first : (n m : ℕ) (k : ℕ) → is_le (nat_cmp n k) ≡ true → nat_cmp k m ≡ Less → nat_cmp n m ≡ Less
+ahead_first n m k h less = cases (nat_cmp n k) refl h
+  where
+    cases : (o : Ordering) → nat_cmp n k ≡ o → is_le o ≡ true → nat_cmp n m ≡ Less
+    cases Less at up = nat_cmp_total.trans n k m at less
+    cases Equal at up = subst (λ z. nat_cmp z m ≡ Less) (sym (exact_unsigned n k at)) less
+    cases Greater at up = cc
+
+lowest : (n : ℕ) → is_le (nat_cmp 0 n) ≡ true
+lowest n = cases (nat_cmp 0 n) refl
+  where
+    cases : (o : Ordering) → nat_cmp 0 n ≡ o → is_le o ≡ true
+    cases Less at = refl
+    cases Equal at = refl
+    cases Greater at = absurd (grind (arith, common_steps, at))
+
+module _ {T : Type 0} where
+  -- each number is below n
+  abbrev pub AllBelow : ℕ → List (ℕ × T) → Type 0
+  AllBelow n es = AllByRecursion (λ y. nat_cmp n y ≡ Greater) (keys_of es)
+
+  -- each number is n or above it
+  abbrev pub AllFrom : ℕ → List (ℕ × T) → Type 0
+  AllFrom n es = AllByRecursion (λ k. is_le (nat_cmp n k) ≡ true) (keys_of es)
+
+  -- BETWEEN OTHERS
+
+  none_below : (n : ℕ) (es : List (ℕ × T)) → AllBelow n es → item_at es n ≡ None
+  none_below n [] all = refl
+  none_below n (e ∷ es) all = ap (λ o. cond (is_eq o) (Some e.1) (item_at es n)) all.0 ∙ none_below n es all.1
+
+  put_below : (n : ℕ) (t : T) (xs ys : List (ℕ × T)) → AllBelow n xs → put_item (xs ++ ys) n t ≡ xs ++ put_item ys n t
+  put_below n t [] ys all = refl
+  put_below n t (x ∷ xs) ys all = ap (λ o. match_ordering o ((n, t) ∷ x ∷ (xs ++ ys)) ((x.0, t) ∷ (xs ++ ys)) (x ∷ put_item (xs ++ ys) n t)) all.0 ∙ ap (λ es. x ∷ es) (put_below n t xs ys all.1)
+
+  put_above : (n : ℕ) (t : T) (es zs : List (ℕ × T)) → AllAbove n zs → put_item (es ++ zs) n t ≡ put_item es n t ++ zs
+  put_above n t [] [] all = refl
+  put_above n t [] (z ∷ zs) all = ap (λ o. match_ordering o ((n, t) ∷ z ∷ zs) ((z.0, t) ∷ zs) (z ∷ put_item zs n t)) all.0
+  put_above n t (e ∷ es) zs all = cases (nat_cmp n e.0) (put_above n t es zs all)
+    where
+      cases : (o : Ordering) → put_item (es ++ zs) n t ≡ put_item es n t ++ zs
+          → match_ordering o ((n, t) ∷ e ∷ (es ++ zs)) ((e.0, t) ∷ (es ++ zs)) (e ∷ put_item (es ++ zs) n t) ≡ match_ordering o ((n, t) ∷ e ∷ es) ((e.0, t) ∷ es) (e ∷ put_item es n t) ++ zs
+      cases Less rest = refl
+      cases Equal rest = refl
+      cases Greater rest = ap (λ l. e ∷ l) rest
+
+  without_below : (n : ℕ) (xs ys : List (ℕ × T)) → AllBelow n xs → without_item (xs ++ ys) n ≡ xs ++ without_item ys n
+  without_below n [] ys all = refl
+  without_below n (x ∷ xs) ys all = ap (λ o. cond (is_eq o) (xs ++ ys) (x ∷ without_item (xs ++ ys) n)) all.0 ∙ ap (λ es. x ∷ es) (without_below n xs ys all.1)
+
+  pub without_above : (n : ℕ) (es zs : List (ℕ × T)) → AllAbove n zs → without_item (es ++ zs) n ≡ without_item es n ++ zs
+  without_above n [] [] all = refl
+  without_above n [] (z ∷ zs) all = ap (λ o. cond (is_eq o) zs (z ∷ without_item zs n)) all.0 ∙ ap (λ l. z ∷ l) (without_above n [] zs all.1)
+  without_above n (e ∷ es) zs all = cases (is_eq (nat_cmp n e.0)) (without_above n es zs all)
+    where
+      cases : (b : Bool) → without_item (es ++ zs) n ≡ without_item es n ++ zs → cond b (es ++ zs) (e ∷ without_item (es ++ zs) n) ≡ cond b es (e ∷ without_item es n) ++ zs
+      cases true rest = refl
+      cases false rest = ap (λ l. e ∷ l) rest
+
+  with_below : (n : ℕ) (t : T) (xs ys : List (ℕ × T)) → AllBelow n xs → with_item (xs ++ ys) n t ≡ xs ++ with_item ys n t
+  with_below n t [] ys all = refl
+  with_below n t (x ∷ xs) ys all = ap (λ o. cond (is_eq o) ((x.0, t) ∷ (xs ++ ys)) (x ∷ with_item (xs ++ ys) n t)) all.0 ∙ ap (λ es. x ∷ es) (with_below n t xs ys all.1)
+
+  with_above : (n : ℕ) (t : T) (es zs : List (ℕ × T)) → AllAbove n zs → with_item (es ++ zs) n t ≡ with_item es n t ++ zs
+  with_above n t [] [] all = refl
+  with_above n t [] (z ∷ zs) all = ap (λ o. cond (is_eq o) ((z.0, t) ∷ zs) (z ∷ with_item zs n t)) all.0 ∙ ap (λ l. z ∷ l) (with_above n t [] zs all.1)
+  with_above n t (e ∷ es) zs all = cases (is_eq (nat_cmp n e.0)) (with_above n t es zs all)
+    where
+      cases : (b : Bool) → with_item (es ++ zs) n t ≡ with_item es n t ++ zs → cond b ((e.0, t) ∷ (es ++ zs)) (e ∷ with_item (es ++ zs) n t) ≡ cond b ((e.0, t) ∷ es) (e ∷ with_item es n t) ++ zs
+      cases true rest = refl
+      cases false rest = ap (λ l. e ∷ l) rest
+
+  module _ (n : ℕ) (xs es zs : List (ℕ × T)) (below : AllBelow n xs) (above : AllAbove n zs) where
+    item_between : item_at (xs ++ (es ++ zs)) n ≡ item_at es n
+    item_between = item_appended xs (es ++ zs) n ∙ ap (λ o. or_else o (item_at (es ++ zs) n)) (none_below n xs below)
+        ∙ item_appended es zs n ∙ ap (or_else (item_at es n)) (none_above n zs above) ∙ or_none (item_at es n)
+
+    put_between : (t : T) → put_item (xs ++ (es ++ zs)) n t ≡ xs ++ (put_item es n t ++ zs)
+    put_between t = put_below n t xs (es ++ zs) below ∙ ap (λ l. xs ++ l) (put_above n t es zs above)
+
+    without_between : without_item (xs ++ (es ++ zs)) n ≡ xs ++ (without_item es n ++ zs)
+    without_between = without_below n xs (es ++ zs) below ∙ ap (λ l. xs ++ l) (without_above n es zs above)
+
+    with_between : (t : T) → with_item (xs ++ (es ++ zs)) n t ≡ xs ++ (with_item es n t ++ zs)
+    with_between t = with_below n t xs (es ++ zs) below ∙ ap (λ l. xs ++ l) (with_above n t es zs above)
+
+  -- WHAT RUNS SAY OF THEIR ITEMS
+
+  -- below that of the first run, and so below all
+  pub ahead_above : (n : ℕ) (rs : Runs T) → IsAhead n (marks rs) → IsLaid rs → AllAbove n (flat rs)
+  ahead_above n [] ahead laid = tt
+  ahead_above n (r ∷ rs) ahead laid = all_both (λ y. nat_cmp n y ≡ Less) r.1.items (flat rs) (own (keys_of r.1.items) laid.1) (ahead_above n rs (next rs laid.2) laid.4)
+    where
+      less : (k : ℕ) (o : Ordering) → nat_cmp r.0 k ≡ o → is_le o ≡ true → nat_cmp n k ≡ Less
+      less k Less at h = nat_cmp_total.trans n r.0 k ahead at
+      less k Equal at h = subst (λ z. nat_cmp n z ≡ Less) (exact_unsigned r.0 k at) ahead
+      less k Greater at h = cc
+
+      own : (ks : List ℕ) → AllByRecursion (λ k. is_le (nat_cmp r.0 k) ≡ true) ks → AllByRecursion (λ y. nat_cmp n y ≡ Less) ks
+      own [] a = tt
+      own (k ∷ ks) a = (less k (nat_cmp r.0 k) refl a.0, own ks a.1)
+
+      next : (qs : Runs T) → IsAhead r.0 (marks qs) → IsAhead n (marks qs)
+      next [] a = tt
+      next (q ∷ qs) a = nat_cmp_total.trans n r.0 q.0 ahead a
+
+  appended_ascends : (xs ys : List (ℕ × T)) → IsAscending xs → IsAscending ys → AllByRecursion (λ k. AllAbove k ys) (keys_of xs) → IsAscending (xs ++ ys)
+  unfolding IsStrictlySortedBy
+  appended_ascends [] ys s r all = r
+  appended_ascends (x ∷ xs) ys s r all = (all_both (λ y. nat_cmp x.0 y ≡ Less) xs ys s.0 all.0, appended_ascends xs ys s.1 r all.1)
+
+  pub flat_ascends : (rs : Runs T) → IsLaid rs → IsAscending (flat rs)
+  unfolding IsStrictlySortedBy
+  flat_ascends [] laid = tt
+  flat_ascends (r ∷ rs) laid = appended_ascends r.1.items (flat rs) laid.0 (flat_ascends rs laid.4) (each (keys_of r.1.items) laid.3)
+    where
+      each : (ks : List ℕ) → AllByRecursion (λ k. IsAhead k (marks rs)) ks → AllByRecursion (λ k. AllAbove k (flat rs)) ks
+      each [] a = tt
+      each (k ∷ ks) a = (ahead_above k rs a.0 laid.4, each ks a.1)
+
+  -- the numbers that stand with the runs ascend
+  pub runs_ascend : (rs : Runs T) → IsLaid rs → IsAscending rs
+  unfolding IsStrictlySortedBy
+  runs_ascend [] laid = tt
+  runs_ascend (r ∷ rs) laid = (later rs laid.2 (runs_ascend rs laid.4), runs_ascend rs laid.4)
+    where
+      later : (qs : Runs T) → IsAhead r.0 (marks qs) → IsAscending qs → AllByRecursion (λ y. nat_cmp r.0 y ≡ Less) (keys_of qs)
+      later [] a s = tt
+      later (q ∷ qs) a s = (a, all_later r.0 q.0 (keys_of qs) a s.0)
+
+  -- THE RUN OF A NUMBER
+
+  -- the run at a place, between those in front of it and those behind it
+  pub record IsRunOf (n : ℕ) (rs : Runs T) (i : ℕ) : Type 0 where
+    pub before : Runs T
+    pub run : ℕ × Vec (ℕ × T) Global
+    pub after : Runs T
+    pub cut : rs ≡ before ++ run ∷ after
+    pub place : length before ≡ i
+    pub below : AllBelow n (flat before)
+    pub from : is_le (nat_cmp run.0 n) ≡ true
+    pub ahead : IsAhead n (marks after)
+
+  one_more : (n : ℕ) (r : ℕ × Vec (ℕ × T) Global) (rs : Runs T) (i : ℕ) → AllBelow n r.1.items → IsRunOf n rs i → IsRunOf n (r ∷ rs) (suc i)
+  one_more n r rs i below home = record {
+    before = r ∷ home.before;
+    run = home.run;
+    after = home.after;
+    cut = ap (λ l. r ∷ l) home.cut;
+    place = ap suc home.place;
+    below = all_both (λ y. nat_cmp n y ≡ Greater) r.1.items (flat home.before) below home.below;
+    from = home.from;
+    ahead = home.ahead;
+  }
+
+  pub run_found : (n : ℕ) (rs : Runs T) (i : ℕ) → IsLaid rs → Some i ≡ run_at (seek (nat_cmp n) rs) → IsRunOf n rs i
+  run_found n [] i laid h = cc
+  run_found n (r ∷ rs) i laid h = cases (λ j e. run_found n rs j laid.4 e) (nat_cmp n r.0) refl h
+    where
+      le : nat_cmp n r.0 ≡ Equal → is_le (nat_cmp r.0 n) ≡ true
+      le at = ap is_le (nat_cmp_total.antisymm r.0 n ∙ ap ordering_reverse at)
+
+      le_greater : nat_cmp n r.0 ≡ Greater → is_le (nat_cmp r.0 n) ≡ true
+      le_greater at = ap is_le (nat_cmp_total.antisymm r.0 n ∙ ap ordering_reverse at)
+
+      first : is_le (nat_cmp r.0 n) ≡ true → IsAhead n (marks rs) → IsRunOf n (r ∷ rs) 0
+      first from ahead = record { before = []; run = r; after = rs; cut = refl; place = refl; below = tt; from = from; ahead = ahead }
+
+      next : (qs : Runs T) → n ≡ r.0 → IsAhead r.0 (marks qs) → IsAhead n (marks qs)
+      next [] is a = tt
+      next (q ∷ qs) is a = subst (λ z. nat_cmp z q.0 ≡ Less) (sym is) a
+
+      -- behind the first run
+      further : ((j : ℕ) → Some j ≡ run_at (seek (nat_cmp n) rs) → IsRunOf n rs j) → nat_cmp n r.0 ≡ Greater → (qs : Runs T) → qs ≡ rs → Some i ≡ run_at (one_further (seek (nat_cmp n) qs)) → IsRunOf n (r ∷ rs) i
+      further rest at [] is e = subst (IsRunOf n (r ∷ rs)) (some_is i 0 e) (first (le_greater at) (subst (λ l. IsAhead n (marks l)) is tt))
+      further rest at (q ∷ qs) is e = there (nat_cmp n q.0) refl e
+        where
+          below : is_le (nat_cmp q.0 n) ≡ true → AllBelow n r.1.items
+          below up = passed n (keys_of r.1.items) q.0 (subst (λ l. AllByRecursion (λ k. IsAhead k (marks l)) (keys_of r.1.items)) (sym is) laid.3) up
+
+          deeper : (j : ℕ) → is_le (nat_cmp q.0 n) ≡ true → Some j ≡ run_at (seek (nat_cmp n) (q ∷ qs)) → i ≡ suc j → IsRunOf n (r ∷ rs) i
+          deeper j up f k = subst (IsRunOf n (r ∷ rs)) (sym k) (one_more n r rs j (below up) (rest j (f ∙ ap (λ l. run_at (seek (nat_cmp n) l)) is)))
+
+          back : (o : Ordering) → nat_cmp n q.0 ≡ o → is_le (ordering_reverse o) ≡ true → is_le (nat_cmp q.0 n) ≡ true
+          back o at h = ap is_le (nat_cmp_total.antisymm q.0 n ∙ ap ordering_reverse at) ∙ h
+
+          behind : (p : Result ℕ ℕ) → seek (nat_cmp n) qs ≡ p → is_le (nat_cmp q.0 n) ≡ true → nat_cmp n q.0 ≡ Greater → Some i ≡ run_at (one_further (one_further p)) → IsRunOf n (r ∷ rs) i
+          behind (Ok j) s up at e = deeper (suc j) up (sym (ap (λ o. run_at (match_ordering o (Err 0) (Ok 0) (one_further (seek (nat_cmp n) qs)))) at ∙ ap (λ p. run_at (one_further p)) s)) (sym (some_is i (suc (suc j)) e))
+          behind (Err zero) s up at e = deeper 0 up (sym (ap (λ o. run_at (match_ordering o (Err 0) (Ok 0) (one_further (seek (nat_cmp n) qs)))) at ∙ ap (λ p. run_at (one_further p)) s)) (sym (some_is i 1 e))
+          behind (Err (suc j)) s up at e = deeper (suc j) up (sym (ap (λ o. run_at (match_ordering o (Err 0) (Ok 0) (one_further (seek (nat_cmp n) qs)))) at ∙ ap (λ p. run_at (one_further p)) s)) (sym (some_is i (suc (suc j)) e))
+
+          there : (o : Ordering) → nat_cmp n q.0 ≡ o → Some i ≡ run_at (one_further (match_ordering o (Err 0) (Ok 0) (one_further (seek (nat_cmp n) qs)))) → IsRunOf n (r ∷ rs) i
+          there Less less e = subst (IsRunOf n (r ∷ rs)) (some_is i 0 e) (first (le_greater at) (subst (λ l. IsAhead n (marks l)) is less))
+          there Equal o e = deeper 0 (back Equal o refl) (sym (ap (λ o. run_at (match_ordering o (Err 0) (Ok 0) (one_further (seek (nat_cmp n) qs)))) o)) (sym (some_is i 1 e))
+          there Greater o e = behind (seek (nat_cmp n) qs) refl (back Greater o refl) o e
+
+      cases : ((j : ℕ) → Some j ≡ run_at (seek (nat_cmp n) rs) → IsRunOf n rs j) → (o : Ordering) → nat_cmp n r.0 ≡ o → Some i ≡ run_at (match_ordering o (Err 0) (Ok 0) (one_further (seek (nat_cmp n) rs))) → IsRunOf n (r ∷ rs) i
+      cases rest Less at e = cc
+      cases rest Equal at e = subst (IsRunOf n (r ∷ rs)) (some_is i 0 e) (first (le at) (next rs (exact_unsigned n r.0 at) laid.2))
+      cases rest Greater at e = further rest at rs refl e
+
+  -- no run has the number, so it is below all
+  pub none_found : (n : ℕ) (rs : Runs T) → None ≡ run_at (seek (nat_cmp n) rs) → IsAhead n (marks rs)
+  none_found n [] h = tt
+  none_found n (r ∷ rs) h = cases (nat_cmp n r.0) refl h
+    where
+      cases : (o : Ordering) → nat_cmp n r.0 ≡ o → None ≡ run_at (match_ordering o (Err 0) (Ok 0) (one_further (seek (nat_cmp n) rs))) → nat_cmp n r.0 ≡ Less
+      cases Less at e = at
+      cases Equal at e = cc
+      cases Greater at e = never (seek (nat_cmp n) rs) e
+        where
+          never : (p : Result ℕ ℕ) → None ≡ run_at (one_further p) → nat_cmp n r.0 ≡ Less
+          never (Ok j) f = cc
+          never (Err j) f = cc
+
+  -- CHANGED
+
+  flat_cut : (before : Runs T) (r : ℕ × Vec (ℕ × T) Global) (after : Runs T) → flat (before ++ r ∷ after) ≡ flat before ++ (r.1.items ++ flat after)
+  flat_cut [] r after = refl
+  flat_cut (b ∷ bs) r after = ap (λ l. b.1.items ++ l) (flat_cut bs r after) ∙ sym (append_assoc b.1.items (flat bs) (r.1.items ++ flat after))
+
+  flat_behind : (before rest : Runs T) → flat (before ++ rest) ≡ flat before ++ flat rest
+  flat_behind [] rest = refl
+  flat_behind (b ∷ bs) rest = ap (λ l. b.1.items ++ l) (flat_behind bs rest) ∙ sym (append_assoc b.1.items (flat bs) (flat rest))
+
+  -- a run of the same first number in the place of another
+  laid_after : (before : Runs T) (r : ℕ × Vec (ℕ × T) Global) (after : Runs T) → IsLaid (before ++ r ∷ after) → IsLaid (r ∷ after)
+  laid_after [] r after laid = laid
+  laid_after (b ∷ bs) r after laid = laid_after bs r after laid.4
+
+  pub laid_changed : (before : Runs T) (r q : ℕ × Vec (ℕ × T) Global) (after rest : Runs T) → q.0 ≡ r.0 → IsLaid (before ++ r ∷ after) → IsLaid (q ∷ rest) → IsLaid (before ++ q ∷ rest)
+  laid_changed [] r q after rest same laid new = new
+  laid_changed (b ∷ bs) r q after rest same laid new =
+      (laid.0, laid.1, first bs b.0 laid.2, each bs (keys_of b.1.items) laid.3, laid_changed bs r q after rest same laid.4 new)
+    where
+      first : (cs : Runs T) (n : ℕ) → IsAhead n (marks (cs ++ r ∷ after)) → IsAhead n (marks (cs ++ q ∷ rest))
+      first [] n a = subst (λ z. nat_cmp n z ≡ Less) (sym same) a
+      first (c ∷ cs) n a = a
+
+      each : (cs : Runs T) (ks : List ℕ) → AllByRecursion (λ k. IsAhead k (marks (cs ++ r ∷ after))) ks → AllByRecursion (λ k. IsAhead k (marks (cs ++ q ∷ rest))) ks
+      each cs [] a = tt
+      each cs (k ∷ ks) a = (first cs k a.0, each cs ks a.1)
+
+  set_cut : (before : Runs T) (r q : ℕ × Vec (ℕ × T) Global) (after : Runs T) → slice_set (before ++ r ∷ after) (length before) q ≡ before ++ q ∷ after
+  set_cut [] r q after = refl
+  set_cut (b ∷ bs) r q after = ap (λ l. b ∷ l) (set_cut bs r q after)
+
+  got_cut : (before : Runs T) (r d : ℕ × Vec (ℕ × T) Global) (after : Runs T) → slice_index_or (before ++ r ∷ after) (length before) d ≡ r
+  got_cut [] r d after = refl
+  got_cut (b ∷ bs) r d after = got_cut bs r d after
+
+  insert_cut : (before : Runs T) (r q : ℕ × Vec (ℕ × T) Global) (after : Runs T) → insert (before ++ r ∷ after) (length before + 1) q ≡ before ++ r ∷ q ∷ after
+  insert_cut [] r q after = refl
+  insert_cut (b ∷ bs) r q after = ap (λ k. insert (b ∷ (bs ++ r ∷ after)) k q) (further (length bs)) ∙ ap (λ l. b ∷ l) (insert_cut bs r q after)
+    where
+      further : (k : ℕ) → suc k + 1 ≡ suc (k + 1)
+      further k = omega arith
+
+  length_cut : (before : Runs T) (r : ℕ × Vec (ℕ × T) Global) (after : Runs T) → length before < length (before ++ r ∷ after)
+  length_cut [] r after = omega arith
+  length_cut (b ∷ bs) r after = let l : length bs < length (bs ++ r ∷ after) = length_cut bs r after in omega arith
+
+  module _ (n : ℕ) (rs : Runs T) (i : ℕ) (laid : IsLaid rs) (home : IsRunOf n rs i) where
+    abbrev in_front : List (ℕ × T)
+    in_front = flat home.before
+
+    abbrev own : List (ℕ × T)
+    own = home.run.1.items
+
+    abbrev behind : List (ℕ × T)
+    behind = flat home.after
+
+    laid_cut : IsLaid (home.before ++ home.run ∷ home.after)
+    laid_cut = subst IsLaid home.cut laid
+
+    laid_own : IsLaid (home.run ∷ home.after)
+    laid_own = laid_after home.before home.run home.after laid_cut
+
+    pub above : AllAbove n behind
+    above = ahead_above n home.after home.ahead laid_own.4
+
+    pub own_ascends : IsAscending own
+    own_ascends = laid_own.0
+
+    pub within_runs : i < length rs
+    within_runs = subst (λ l. i < length l) (sym home.cut) (subst (λ k. k < length (home.before ++ home.run ∷ home.after)) home.place (length_cut home.before home.run home.after))
+
+    pub run_got : (d : ℕ × Vec (ℕ × T) Global) → slice_index_or rs i d ≡ home.run
+    run_got d = ap (λ l. slice_index_or l i d) home.cut ∙ ap (λ k. slice_index_or (home.before ++ home.run ∷ home.after) k d) (sym home.place) ∙ got_cut home.before home.run d home.after
+
+    pub run_set : (q : ℕ × Vec (ℕ × T) Global) → slice_set rs i q ≡ home.before ++ q ∷ home.after
+    run_set q = ap (λ l. slice_set l i q) home.cut ∙ ap (λ k. slice_set (home.before ++ home.run ∷ home.after) k q) (sym home.place) ∙ set_cut home.before home.run q home.after
+
+    pub parts : flat rs ≡ in_front ++ (own ++ behind)
+    parts = ap flat home.cut ∙ flat_cut home.before home.run home.after
+
+    pub item_home : item_at (flat rs) n ≡ item_at own n
+    item_home = ap (λ l. item_at l n) parts ∙ item_between n in_front own behind home.below above
+
+    pub item_found_in : (es : List (ℕ × T)) → es ≡ own → item_at es n ≡ item_at (flat rs) n
+    item_found_in es is = ap (λ l. item_at l n) is ∙ sym item_home
+
+    -- what the run then has, between the others
+    flat_set : (q : ℕ × Vec (ℕ × T) Global) → flat (slice_set rs i q) ≡ in_front ++ (q.1.items ++ behind)
+    flat_set q = ap flat (run_set q) ∙ flat_cut home.before q home.after
+
+    pub put_home : (q : ℕ × Vec (ℕ × T) Global) (t : T) → q.1.items ≡ put_item own n t → flat (slice_set rs i q) ≡ put_item (flat rs) n t
+    put_home q t is = flat_set q ∙ ap (λ l. in_front ++ (l ++ behind)) is ∙ sym (put_between n in_front own behind home.below above t) ∙ ap (λ l. put_item l n t) (sym parts)
+
+    pub without_home : (q : ℕ × Vec (ℕ × T) Global) → q.1.items ≡ without_item own n → flat (slice_set rs i q) ≡ without_item (flat rs) n
+    without_home q is = flat_set q ∙ ap (λ l. in_front ++ (l ++ behind)) is ∙ sym (without_between n in_front own behind home.below above) ∙ ap (λ l. without_item l n) (sym parts)
+
+    pub with_home : (q : ℕ × Vec (ℕ × T) Global) (t : T) → q.1.items ≡ with_item own n t → flat (slice_set rs i q) ≡ with_item (flat rs) n t
+    with_home q t is = flat_set q ∙ ap (λ l. in_front ++ (l ++ behind)) is ∙ sym (with_between n in_front own behind home.below above t) ∙ ap (λ l. with_item l n t) (sym parts)
+
+    pub same_home : (q : ℕ × Vec (ℕ × T) Global) → q.1.items ≡ own → flat (slice_set rs i q) ≡ flat rs
+    same_home q is = flat_set q ∙ ap (λ l. in_front ++ (l ++ behind)) is ∙ sym parts
+
+    -- in order where the items of the run are, and are its own
+    laid_set : (q : ℕ × Vec (ℕ × T) Global) → q.0 ≡ home.run.0 → IsAscending q.1.items → AllFrom home.run.0 q.1.items → AllByRecursion (λ k. IsAhead k (marks home.after)) (keys_of q.1.items) → IsLaid (slice_set rs i q)
+    laid_set q same s from ahead =
+        subst IsLaid (sym (run_set q))
+        (laid_changed home.before home.run q home.after home.after same laid_cut
+        (s, subst (λ z. AllByRecursion (λ k. is_le (nat_cmp z k) ≡ true) (keys_of q.1.items)) (sym same) from, subst (λ z. IsAhead z (marks home.after)) (sym same) laid_own.2, ahead, laid_own.4))
+
+    pub laid_keys : (q : ℕ × Vec (ℕ × T) Global) → q.0 ≡ home.run.0 → keys_of q.1.items ≡ keys_of own → IsLaid (slice_set rs i q)
+    laid_keys q same keys =
+        laid_set q same (subst (IsStrictlySortedBy nat_cmp) (sym keys) laid_own.0) (subst (AllByRecursion (λ k. is_le (nat_cmp home.run.0 k) ≡ true)) (sym keys) laid_own.1)
+        (subst (AllByRecursion (λ k. IsAhead k (marks home.after))) (sym keys) laid_own.3)
+
+    pub laid_put : (q : ℕ × Vec (ℕ × T) Global) (t : T) → q.0 ≡ home.run.0 → q.1.items ≡ put_item own n t → IsLaid (slice_set rs i q)
+    laid_put q t same is =
+        laid_set q same (subst IsAscending (sym is) (ascending_put_item own n t laid_own.0))
+        (subst (AllFrom home.run.0) (sym is) (all_put (λ k. is_le (nat_cmp home.run.0 k) ≡ true) own n t home.from laid_own.1))
+        (subst (λ es. AllByRecursion (λ k. IsAhead k (marks home.after)) (keys_of es)) (sym is) (all_put (λ k. IsAhead k (marks home.after)) own n t home.ahead laid_own.3))
+
+    pub laid_without : (q : ℕ × Vec (ℕ × T) Global) → q.0 ≡ home.run.0 → q.1.items ≡ without_item own n → IsLaid (slice_set rs i q)
+    laid_without q same is =
+        laid_set q same (subst IsAscending (sym is) (ascending_without own n laid_own.0))
+        (subst (AllFrom home.run.0) (sym is) (all_without (λ k. is_le (nat_cmp home.run.0 k) ≡ true) own n laid_own.1))
+        (subst (λ es. AllByRecursion (λ k. IsAhead k (marks home.after)) (keys_of es)) (sym is) (all_without (λ k. IsAhead k (marks home.after)) own n laid_own.3))
+
+    -- the item at a place of the run, lent
+    module _ (r : ℕ × Vec (ℕ × T) Global) (is : r ≡ home.run) (place : ℕ) where
+      pub own_of : r.1.items ≡ own
+      own_of = ap (λ q. q.1.items) is
+
+      pub found_within : (es : List (ℕ × T)) → es ≡ own → Ok place ≡ seek (nat_cmp n) es → place < length r.1.items
+      found_within es same h = subst (λ l. place < length l) (same ∙ sym own_of) (seek_within n es place h)
+
+      module _ (es : List (ℕ × T)) (same : es ≡ own) (h : Ok place ≡ seek (nat_cmp n) es) (x : ℕ × T) (at : x ≡ slice_index_or r.1.items place x) where
+        found : Ok place ≡ seek (nat_cmp n) r.1.items
+        found = h ∙ ap (seek (nat_cmp n)) (same ∙ sym own_of)
+
+        pub lent_keys : (w : T) → keys_of (slice_set r.1.items place (x.0, w)) ≡ keys_of own
+        lent_keys w = keys-set r.1.items place (x.0, w) (number_kept r.1.items place x w at) ∙ ap keys_of own_of
+
+        pub lent_is : (w : T) → slice_set r.1.items place (x.0, w) ≡ with_item own n w
+        lent_is w = set_is r.1.items place x.0 w (number_kept r.1.items place x w at) ∙ with_found n r.1.items place found w ∙ ap (λ l. with_item l n w) own_of
+
+        pub lent_value : item_at (flat rs) n ≡ Some x.1
+        lent_value = item_home ∙ ap (λ l. item_at l n) (sym own_of) ∙ item_found n r.1.items place found ∙ value_got r.1.items place x (seek_within n r.1.items place found) at
+
+    pub none_lent : (es : List (ℕ × T)) (j : ℕ) → es ≡ own → Err j ≡ seek (nat_cmp n) es → item_at (flat rs) n ≡ None
+    none_lent es j same h = sym (item_found_in es same) ∙ item_absent n es j (subst IsAscending (sym same) own_ascends) h
+
+  -- A RUN IN TWO
+
+  record IsCutAt (rs : Runs T) (i : ℕ) (r : ℕ × Vec (ℕ × T) Global) : Type 0 where
+    before : Runs T
+    after : Runs T
+    cut : rs ≡ before ++ r ∷ after
+    place : length before ≡ i
+
+  cut_at : (rs : Runs T) (i : ℕ) (r : ℕ × Vec (ℕ × T) Global) → i < length rs → r ≡ slice_index_or rs i r → IsCutAt rs i r
+  cut_at [] i r l is = absurd (omega arith)
+  cut_at (q ∷ rs) zero r l is = record { before = []; after = rs; cut = ap (λ z. z ∷ rs) (sym is); place = refl }
+  cut_at (q ∷ rs) (suc i) r l is =
+      let rest = cut_at rs i r (omega arith) is in
+      record { before = q ∷ rest.before; after = rest.after; cut = ap (λ l. q ∷ l) rest.cut; place = ap suc rest.place }
+
+  record IsParted (es : List (ℕ × T)) (m : ℕ) (x : ℕ × T) : Type 0 where
+    rest : List (ℕ × T)
+    front : es ≡ take m es ++ x ∷ rest
+    back : drop m es ≡ x ∷ rest
+
+  parted_at : (es : List (ℕ × T)) (m : ℕ) (x : ℕ × T) → m < length es → x ≡ slice_index_or es m x → IsParted es m x
+  parted_at [] m x l is = absurd (omega arith)
+  parted_at (e ∷ es) zero x l is = record { rest = es; front = ap (λ z. z ∷ es) (sym is); back = ap (λ z. z ∷ es) (sym is) }
+  parted_at (e ∷ es) (suc m) x l is =
+      let deeper = parted_at es m x (omega arith) is in
+      record { rest = deeper.rest; front = ap (λ l. e ∷ l) deeper.front; back = deeper.back }
+
+  below_next : (xs : List (ℕ × T)) (x : ℕ × T) (ys : List (ℕ × T)) → IsAscending (xs ++ x ∷ ys) → AllByRecursion (λ k. nat_cmp k x.0 ≡ Less) (keys_of xs)
+  unfolding IsStrictlySortedBy
+  below_next [] x ys s = tt
+  below_next (e ∷ xs) x ys s = ((all_right (λ y. nat_cmp e.0 y ≡ Less) xs (x ∷ ys) s.0).0, below_next xs x ys s.1)
+
+  -- from the first of them on
+  from_first : (x : ℕ × T) (ys : List (ℕ × T)) → IsAscending (x ∷ ys) → AllFrom x.0 (x ∷ ys)
+  unfolding IsStrictlySortedBy
+  from_first x ys s = (ap is_le (itself x.0), each (keys_of ys) s.0)
+    where
+      each : (ks : List ℕ) → AllByRecursion (λ y. nat_cmp x.0 y ≡ Less) ks → AllByRecursion (λ k. is_le (nat_cmp x.0 k) ≡ true) ks
+      each [] a = tt
+      each (k ∷ ks) a = (ap is_le a.0, each ks a.1)
+
+  ahead_of : (n m : ℕ) (es : List (ℕ × T)) → 0 < length es → AllFrom n es → AllByRecursion (λ k. nat_cmp k m ≡ Less) (keys_of es) → nat_cmp n m ≡ Less
+  ahead_of n m [] l from below = absurd (omega arith)
+  ahead_of n m (e ∷ es) l from below = ahead_first n m e.0 from.0 below.0
+
+  taken_some : (es : List (ℕ × T)) (m : ℕ) → 0 < m → m < length es → 0 < length (take m es)
+  taken_some [] m a b = absurd (omega arith)
+  taken_some (e ∷ es) zero a b = absurd (omega arith)
+  taken_some (e ∷ es) (suc m) a b = omega arith
+
+  -- both parts are laid as the whole was
+  two_laid : (r q p : ℕ × Vec (ℕ × T) Global) (after : Runs T) (m : ℕ) (x : ℕ × T) → IsLaid (r ∷ after) → 0 < m → m < length r.1.items → x ≡ slice_index_or r.1.items m x
+      → q.0 ≡ r.0 → q.1.items ≡ take m r.1.items → p.0 ≡ x.0 → p.1.items ≡ drop m r.1.items → IsLaid (q ∷ p ∷ after)
+  two_laid r q p after m x laid some within is same low first high =
+      let two = parted_at r.1.items m x within is in
+      let s : IsAscending (take m r.1.items ++ x ∷ two.rest) = subst IsAscending two.front laid.0 in
+      let below = below_next (take m r.1.items) x two.rest s in
+      let from : AllFrom r.0 (take m r.1.items ++ x ∷ two.rest) = subst (AllFrom r.0) two.front laid.1 in
+      let ahead : AllByRecursion (λ k. IsAhead k (marks after)) (keys_of (take m r.1.items ++ x ∷ two.rest)) = subst (λ es. AllByRecursion (λ k. IsAhead k (marks after)) (keys_of es)) two.front laid.3 in
+      let behind : AllByRecursion (λ k. IsAhead k (marks after)) (keys_of (x ∷ two.rest)) = all_right (λ k. IsAhead k (marks after)) (take m r.1.items) (x ∷ two.rest) ahead in
+      let lows : AllFrom r.0 (take m r.1.items) = all_left (λ k. is_le (nat_cmp r.0 k) ≡ true) (take m r.1.items) (x ∷ two.rest) from in
+      let upper : p.1.items ≡ x ∷ two.rest = high ∙ two.back in
+      let rises : IsAscending (x ∷ two.rest) = ascending_right (take m r.1.items) (x ∷ two.rest) s in (
+        subst IsAscending (sym low) (ascending_left (take m r.1.items) (x ∷ two.rest) s),
+        subst (λ z. AllByRecursion (λ k. is_le (nat_cmp z k) ≡ true) (keys_of q.1.items)) (sym same) (subst (AllFrom r.0) (sym low) lows),
+        subst (λ z. nat_cmp z p.0 ≡ Less) (sym same) (subst (λ z. nat_cmp r.0 z ≡ Less) (sym first) (ahead_of r.0 x.0 (take m r.1.items) (taken_some r.1.items m some within) lows below)),
+        subst (λ es. AllByRecursion (λ k. nat_cmp k p.0 ≡ Less) (keys_of es)) (sym low) (subst (λ z. AllByRecursion (λ k. nat_cmp k z ≡ Less) (keys_of (take m r.1.items))) (sym first) below),
+        (
+          subst IsAscending (sym upper) rises,
+          subst (λ z. AllByRecursion (λ k. is_le (nat_cmp z k) ≡ true) (keys_of p.1.items)) (sym first) (subst (AllFrom x.0) (sym upper) (from_first x two.rest rises)),
+          subst (λ z. IsAhead z (marks after)) (sym first) behind.0,
+          subst (λ es. AllByRecursion (λ k. IsAhead k (marks after)) (keys_of es)) (sym upper) behind,
+          laid.4,
+        ),
+      )
+
+  two_flat : (r q p : ℕ × Vec (ℕ × T) Global) (after : Runs T) (m : ℕ) (x : ℕ × T) → m < length r.1.items → x ≡ slice_index_or r.1.items m x → q.1.items ≡ take m r.1.items → p.1.items ≡ drop m r.1.items → flat (q ∷ p ∷ after) ≡ flat (r ∷ after)
+  two_flat r q p after m x within is low high =
+      let two = parted_at r.1.items m x within is in
+      ap₂ (λ xs ys. xs ++ (ys ++ flat after)) low (high ∙ two.back) ∙ sym (append_assoc (take m r.1.items) (x ∷ two.rest) (flat after)) ∙ ap (λ es. es ++ flat after) (sym two.front)
+
+  module _ (rs new : Runs T) (i : ℕ) (r q p : ℕ × Vec (ℕ × T) Global) (m : ℕ) (x : ℕ × T) (laid : IsLaid rs) (inside : i < length rs) (own_run : r ≡ slice_index_or rs i r)
+      (some : 0 < m) (within : m < length r.1.items) (is : x ≡ slice_index_or r.1.items m x)
+      (same : q.0 ≡ r.0) (low : q.1.items ≡ take m r.1.items) (first : p.0 ≡ x.0) (high : p.1.items ≡ drop m r.1.items) (put : new ≡ insert (slice_set rs i q) (i + 1) p) where
+    cut_here : IsCutAt rs i r
+    cut_here = cut_at rs i r inside own_run
+
+    in_two : new ≡ cut_here.before ++ q ∷ p ∷ cut_here.after
+    in_two = put ∙ ap (λ l. insert (slice_set l i q) (i + 1) p) cut_here.cut ∙ ap (λ k. insert (slice_set (cut_here.before ++ r ∷ cut_here.after) k q) (k + 1) p) (sym cut_here.place)
+        ∙ ap (λ l. insert l (length cut_here.before + 1) p) (set_cut cut_here.before r q cut_here.after) ∙ insert_cut cut_here.before q p cut_here.after
+
+    before_laid : IsLaid (cut_here.before ++ r ∷ cut_here.after)
+    before_laid = subst IsLaid cut_here.cut laid
+
+    pub parted_laid : IsLaid new
+    parted_laid = subst IsLaid (sym in_two)
+        (laid_changed cut_here.before r q cut_here.after (p ∷ cut_here.after) same before_laid
+        (two_laid r q p cut_here.after m x (laid_after cut_here.before r cut_here.after before_laid) some within is same low first high))
+
+    pub parted_flat : flat new ≡ flat rs
+    parted_flat = ap flat in_two ∙ flat_behind cut_here.before (q ∷ p ∷ cut_here.after) ∙ ap (λ l. flat cut_here.before ++ l) (two_flat r q p cut_here.after m x within is low high)
+        ∙ sym (flat_behind cut_here.before (r ∷ cut_here.after)) ∙ ap flat (sym cut_here.cut)
+
+  -- THE LAST RUN
+
+  pub last_run : (rs rest : Runs T) (r : ℕ × Vec (ℕ × T) Global) → rs ≡ rest ++ r ∷ [] → flat rs ≡ flat rest ++ r.1.items
+  last_run rs rest r is = ap flat is ∙ flat_behind rest (r ∷ []) ∙ ap (λ l. flat rest ++ l) (append-nil r.1.items)
+
+  -- AN ITEM IN FRONT OF ALL
+
+  pub insert_first : (rs : Runs T) (q : ℕ × Vec (ℕ × T) Global) → insert rs 0 q ≡ q ∷ rs
+  insert_first [] q = refl
+  insert_first (r ∷ rs) q = refl
+
+  pub put_ahead : (n : ℕ) (t : T) (rs : Runs T) → IsLaid rs → IsAhead n (marks rs) → (n, t) ∷ flat rs ≡ put_item (flat rs) n t
+  put_ahead n t rs laid ahead = sym (put_above n t [] (flat rs) (ahead_above n rs ahead laid))
+
+  zero_ahead : (n : ℕ) (rs : Runs T) → IsAhead n (marks rs) → IsAhead 0 (marks rs)
+  zero_ahead n [] a = tt
+  zero_ahead n (r ∷ rs) a = cases (nat_cmp 0 n) refl (lowest n)
+    where
+      cases : (o : Ordering) → nat_cmp 0 n ≡ o → is_le (nat_cmp 0 n) ≡ true → nat_cmp 0 r.0 ≡ Less
+      cases Less at h = nat_cmp_total.trans 0 n r.0 at a
+      cases Equal at h = subst (λ z. nat_cmp z r.0 ≡ Less) (sym (exact_unsigned 0 n at)) a
+      cases Greater at h = cc
+
+  pub laid_ahead : (n : ℕ) (t : T) (v : Vec (ℕ × T) Global) (rs : Runs T) → IsLaid rs → IsAhead n (marks rs) → v.items ≡ (n, t) ∷ [] → IsLaid ((0, v) ∷ rs)
+  unfolding IsStrictlySortedBy
+  laid_ahead n t v rs laid ahead is =
+      let none : IsAhead 0 (marks rs) = zero_ahead n rs ahead in (
+        subst IsAscending (sym is) (tt, tt),
+        subst (AllFrom 0) (sym is) (lowest n, tt),
+        none,
+        subst (λ es. AllByRecursion (λ k. IsAhead k (marks rs)) (keys_of es)) (sym is) (ahead, tt),
+        laid,
+      )

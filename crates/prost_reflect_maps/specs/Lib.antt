@@ -1,0 +1,7 @@
+pub mod Items
+pub mod Runs
+pub mod Held
+pub mod ItemLists
+pub mod ItemsLeft
+pub mod NumberSets
+pub mod formers
