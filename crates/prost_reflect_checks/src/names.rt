@@ -9,7 +9,6 @@ use crate::walk::{any_definition, any_enum, any_file, any_message, any_service};
 use prost_reflect_tables::{Flat, FlatEnum, FlatMessage, FlatService, add_names, text_or_empty};
 use prost_reflect_types::FileDescriptorProto;
 use std::alloc::{AllocError, Global};
-use std::collections::BTreeSet;
 
 fn is_unnamed(name: &Option<String>) -> bool
     ensures { result ≡ is_unnamed name.now }
@@ -132,17 +131,14 @@ fn full_names<'f, 'a>(alloc: Global, flat: &'f Flat<'a>) -> Result<Vec<&'f str>,
     Ok(names)
 }
 
-/// Whether a name stands among those before it.
-fn repeats(alloc: Global, names: &[&str]) -> Result<bool, AllocError>
-    ensures { IfOk result (λ b. b ≡ repeats [] (text_list names.now)) }
+/// Whether a name stands among those before it. Puts them in order, and leaves each once.
+fn repeats(names: &mut Vec<&str>) -> bool
+    ensures { result ≡ repeats [] (text_list names.old.items) }
 {
-    let mut seen = BTreeSet::new(alloc);
-    for name in names {
-        if !seen.insert(String::from_str(alloc, name)?)? {
-            return Ok(true);
-        }
-    }
-    Ok(false)
+    let count = names.as_slice().len();
+    names.sort_unstable();
+    names.dedup();
+    names.as_slice().len() < count
 }
 
 /// Whether two definitions have one full name.
@@ -153,6 +149,6 @@ fn repeats(alloc: Global, names: &[&str]) -> Result<bool, AllocError>
 pub fn has_duplicate_name(alloc: Global, flat: &Flat) -> Result<bool, AllocError>
     ensures { IfOk result (λ b. b ≡ duplicate_name (flat_rows flat.now)) }
 {
-    let names = full_names(alloc, flat)?;
-    repeats(alloc, names.as_slice())
+    let mut names = full_names(alloc, flat)?;
+    Ok(repeats(&mut names))
 }

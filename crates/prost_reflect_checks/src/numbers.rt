@@ -10,19 +10,15 @@ ghost use Rattle.prost_reflect_tables.specs.ResolvedFaults.{numbered_found};
 use prost_reflect_tables::{Definition, Flat, FlatMessage, Resolved, ResolvedField};
 use prost_reflect_types::FieldDescriptorProto;
 use std::alloc::{AllocError, Global};
-use std::collections::BTreeSet;
 
-/// Whether one stands among those before it.
-fn repeats(alloc: Global, numbers: &[(usize, i32)]) -> Result<bool, AllocError>
-    ensures { IfOk result (λ b. b ≡ number_repeats [] (numbered_list numbers.now)) }
+/// Whether one stands among those before it. Puts them in order, and leaves each once.
+fn repeats(numbers: &mut Vec<(usize, i32)>) -> bool
+    ensures { result ≡ number_repeats [] (numbered_list numbers.old.items) }
 {
-    let mut seen = BTreeSet::new(alloc);
-    for number in numbers {
-        if !seen.insert(*number)? {
-            return Ok(true);
-        }
-    }
-    Ok(false)
+    let count = numbers.as_slice().len();
+    numbers.sort_unstable();
+    numbers.dedup();
+    numbers.as_slice().len() < count
 }
 
 fn add_fields(
@@ -77,5 +73,5 @@ pub fn has_duplicate_number(
     let mut numbers = Vec::new(alloc);
     add_messages(&mut numbers, flat.messages.as_slice())?;
     add_extensions(&mut numbers, resolved.extensions.as_slice())?;
-    repeats(alloc, numbers.as_slice())
+    Ok(repeats(&mut numbers))
 }

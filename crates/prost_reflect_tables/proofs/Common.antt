@@ -52,7 +52,7 @@ unfoldable pub use Rattle.prost_reflect_tables.specs.Linking.{linked_field, link
 pub use Rattle.prost_reflect_tables.specs.Names.{text_or_empty, without_dot, joined, bracketed}
 pub use Rattle.prost_reflect_tables.specs.Options.{bool_of, bool_among, bool_in, bool_option}
 pub use Rattle.prost_reflect_tables.specs.Places.{place_of, fields_at, fields_or_none, is_declared_at, row_of}
-pub use Rattle.prost_reflect_tables.specs.Resolved.{ResolvedRow, resolved_extension, resolved_lists, resolved_row}
+pub use Rattle.prost_reflect_tables.specs.Resolved.{ResolvedRow, resolved_lists, resolved_row}
 unfoldable pub use Rattle.prost_reflect_tables.specs.Resolved.{resolve, resolved_field}
 pub use Rattle.prost_reflect_tables.specs.Rows.{FieldRow, field_row, TableRows, rows_from, IdentityRow, MessageRow, EnumRow, OneofRow, EnumValueRow, written_scalar, identity_row, oneof_row, enum_value_row}
 pub use Rattle.prost_reflect_tables.specs.Schema.{rows_of}

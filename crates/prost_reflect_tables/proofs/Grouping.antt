@@ -1,6 +1,6 @@
 -- Lists of items, each list at its place.
 use Rattle.std.specs.Prelude.{◌≡◌, ◌+◌, ◌<◌, ◌≤◌, ◌∷◌, ◌++◌, ◌≢◌, ◌⊎◌}
-use Rattle.prost_reflect_tables.proofs.Common.{ℕ, zero, suc, Bool, true, false, cond, List, [], map, length, Option, Some, None, refl, sym, ap, ◌∙◌, arith, append_assoc, append-nil, get_or, drop, drop-cons, add-one, ⊎_elim, inl, inr, Vec, map-append, drop_all, length-map, filter, nat_lt, slice_set, eq-eqb, ne_eqb, Links, is_place, belonging, linked_field, declared_fields, fields_of_message, extended_place, linked_message, messages_from, linked_oneof, oneof_place, oneofs_from, links_of, linked_enum, linked_rows, FieldTable, IdentityRow, FieldRow, OneofRow, MessageRow, EnumRow, identity_row, field_row, oneof_row, rows_from, FieldDescriptorProto, OneofDescriptorProto, FlatMessage, MessageTable, EnumTable, definition_row, message_row, DefinitionRow, FlatMessageRow, FlatRows, IsPartitionPoint, empty_lists, with_item, grouped, list_rows, messages_with}
+use Rattle.prost_reflect_tables.proofs.Common.{ℕ, zero, suc, Bool, true, false, cond, List, [], map, length, Option, Some, None, refl, sym, ap, ◌∙◌, arith, append_assoc, append-nil, get_or, drop, drop-cons, add-one, ⊎_elim, inl, inr, Vec, map-append, drop_all, length-map, filter, nat_lt, slice_set, eq-eqb, ne_eqb, is_place, belonging, messages_from, linked_oneof, oneof_place, oneofs_from, links_of, linked_enum, linked_rows, FieldTable, IdentityRow, FieldRow, OneofRow, MessageRow, EnumRow, identity_row, field_row, oneof_row, rows_from, FieldDescriptorProto, OneofDescriptorProto, MessageTable, EnumTable, definition_row, DefinitionRow, FlatRows, IsPartitionPoint, empty_lists, with_item, grouped, list_rows}
 use Rattle.std.proofs.Common.{Global}
 use Rattle.prost_reflect_tables.specs.Rows.{enum_row, message_row as table_row}
 use Rattle.prost_reflect_tables.specs.declared.build.flatten.Definition.{Definition}
@@ -123,12 +123,6 @@ more_grouped v place row xs k d old new h is e =
 pub all_grouped : {D X Y : Type 0} (v : D → X) (place : X → Option ℕ) (row : X → Y) (xs : List D) (k : ℕ) (lists : List (List Y)) → length xs ≤ k → lists ≡ grouped place row (map v (drop k xs)) 0 lists
 all_grouped v place row xs k lists h = sym (grouped_none place row 0 lists) ∙ ap (λ ds. grouped place row (map v ds) 0 lists) (sym (drop_all k xs h))
 
--- Fields and extensions of each message, from the place on.
-pub messages_grouped : (links : Links) (extensions : List (DefinitionRow FieldDescriptorProto)) (T : ℕ) (ms : List FlatMessageRow) →
-    messages_with (grouped (extended_place links) (linked_field links true) extensions T (map (λ (m : FlatMessageRow). declared_fields links m.fields) ms)) ms ≡ messages_from links extensions T ms
-messages_grouped links extensions T [] = refl
-messages_grouped links extensions T (m ∷ ms) = ap (λ l. linked_message (fields_of_message links extensions T m) m ∷ l) (messages_grouped links extensions (T + 1) ms)
-
 -- SMALLER NUMBERS
 
 count_at : {X : Type 0} (p : X → Bool) (xs : List X) (k : ℕ) → k ≤ length xs → ((i : ℕ) (d : X) → i < length xs → i < k → p (get_or xs i d) ≡ true) → ((i : ℕ) (d : X) → i < length xs → k ≤ i → p (get_or xs i d) ≡ false) → k ≡ length (filter p xs)
@@ -168,21 +162,6 @@ oneof_more fields declared tables t ds k d h is e =
 -- MESSAGES
 
 -- ALL
-
-pub lists_length : (links : Links) (extensions : List (DefinitionRow FieldDescriptorProto)) (ms : List FlatMessage) (old new : List (Vec FieldTable Global)) →
-    list_rows old ≡ map (λ (m : FlatMessageRow). declared_fields links m.fields) (map message_row ms) →
-    list_rows new ≡ grouped (extended_place links) (linked_field links true) extensions 0 (list_rows old) → length new ≡ length ms
-lists_length links extensions ms old new declared extended =
-    sym (length-map new (λ (v : Vec FieldTable Global). map field_row v.items))
-    ∙ (ap length extended
-    ∙ (grouped_length (extended_place links) (linked_field links true) extensions 0 (list_rows old)
-    ∙ (ap length declared ∙ (length-map (map message_row ms) (λ (m : FlatMessageRow). declared_fields links m.fields) ∙ length-map ms message_row))))
-
-pub messages_linked : (links : Links) (extensions : List (DefinitionRow FieldDescriptorProto)) (ms : List FlatMessageRow) (old new : List (Vec FieldTable Global)) (tables : List MessageTable) →
-    list_rows old ≡ map (λ (m : FlatMessageRow). declared_fields links m.fields) ms → list_rows new ≡ grouped (extended_place links) (linked_field links true) extensions 0 (list_rows old) →
-    map table_row tables ≡ messages_with (list_rows new) ms → map table_row tables ≡ messages_from links extensions 0 ms
-messages_linked links extensions ms old new tables declared extended e =
-    e ∙ (ap (λ l. messages_with l ms) (extended ∙ ap (grouped (extended_place links) (linked_field links true) extensions 0) declared) ∙ messages_grouped links extensions 0 ms)
 
 pub rows_linked : (messages : List MessageTable) (enums : List EnumTable) (rows : FlatRows) → map table_row messages ≡ messages_from (links_of rows) rows.extensions 0 rows.messages → map enum_row enums ≡ map linked_enum rows.enums →
     rows_from messages enums ≡ linked_rows rows

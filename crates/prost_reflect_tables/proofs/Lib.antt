@@ -13,7 +13,6 @@ mod Escapes
 mod WorkedDefaults
 mod KindDefaults
 mod Flattening
-pub mod Numbering
 pub mod OptionBytes
 pub mod Sorting
 pub mod Grouping

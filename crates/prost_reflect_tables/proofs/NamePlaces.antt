@@ -1,28 +1,15 @@
 -- How sets and maps of names grow, name by name.
 use Rattle.std.specs.Prelude.{◌≡◌, ◌+◌, ◌<◌, ◌||◌, ◌∷◌, ◌++◌}
-use Rattle.prost_reflect_tables.proofs.Common.{ℕ, Bool, true, false, cond, List, [], length, take, drop, get_or, Option, Some, None, refl, ap, ◌∙◌, arith, add-zero, zero-add, drop-cons, add-one, list_any, position_from, take_more, map-append, length-map, length-take, repeats, name_place, text_list}
+use Rattle.prost_reflect_tables.proofs.Common.{ℕ, Bool, true, false, cond, List, [], length, take, get_or, Option, Some, None, refl, ap, ◌∙◌, arith, add-zero, zero-add, list_any, position_from, take_more, map-append, length-map, length-take, name_place, text_list}
 use denote.Bor.{Bor}
 use Rattle.std.specs.Str.{bytes_eq}
-use Rattle.std.proofs.lemmas.Slice.Eq.{bytes_eq-Decides}
 
 pub texts_more : (xs : List (Bor (List ℕ))) (i : ℕ) (d : Bor (List ℕ)) → i < length xs → text_list (take (i + 1) xs) ≡ text_list (take i xs) ++ (get_or xs i d).now ∷ []
 texts_more xs i d h = ap text_list (take_more xs i d h) ∙ map-append (λ (t : Bor (List ℕ)). t.now) (take i xs) (get_or xs i d ∷ [])
 
-texts_left : (xs : List (Bor (List ℕ))) (i : ℕ) (d : Bor (List ℕ)) → i < length xs → text_list (drop i xs) ≡ (get_or xs i d).now ∷ text_list (drop (i + 1) xs)
-texts_left xs i d h = rw (drop-cons xs i d, add-one i) refl
-
 pub list_any_push : {X : Type 0} (p : X → Bool) (xs : List X) (x : X) → list_any p (xs ++ x ∷ []) ≡ list_any p xs || p x
 list_any_push p [] x = elim (p x) as (λ b. (b || false) ≡ b) [ true ↦ refl | false ↦ refl ]
 list_any_push p (y ∷ xs) x = elim (p y) as (λ b. (b || list_any p (xs ++ x ∷ [])) ≡ ((b || list_any p xs) || p x)) [ true ↦ refl | false ↦ list_any_push p xs x ]
-
--- A name that is not among those before changes nothing.
-pub repeats_more : (xs : List (Bor (List ℕ))) (i : ℕ) (d : Bor (List ℕ)) → i < length xs → list_any (bytes_eq (get_or xs i d).now) (text_list (take i xs)) ≡ false →
-    repeats (text_list (take i xs)) (text_list (drop i xs)) ≡ repeats (text_list (take (i + 1) xs)) (text_list (drop (i + 1) xs))
-repeats_more xs i d h new = rw (texts_left xs i d h, texts_more xs i d h, new) refl
-
--- A set of names, with one name more.
-pub seen_more : (added name : List ℕ) {old new : Bool} (q : List ℕ) → added ≡ name → old ≡ new → cond (bytes_eq added q) true old ≡ (new || bytes_eq q name)
-seen_more added name {old} {new} q same kept = rw (same, kept) (grind (arith, bytes_eq-Decides name q, bytes_eq-Decides q name))
 
 -- THE FIRST PLACE
 

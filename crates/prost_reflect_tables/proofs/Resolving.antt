@@ -1,7 +1,7 @@
 -- What is found of resolved fields is found of their definitions.
-use Rattle.prost_reflect_tables.proofs.Common.{Bool, cond, List, [], map, Option, Some, None, refl, sym, ap, ap₂, ◌∙◌, String, list_any, ℕ, false, true, FieldDescriptorProto, DefinitionRow, FlatMessageRow, FlatRows, message_names, enum_names, names_nothing, place_named, type_unknown, extendee_unknown, extension_outside, is_message_type, is_enum_type, Numbered, number_or_zero, numbered_at, numbered_extensions, is_of_entry, wrongly_of_entry, default_bad, float_default_bad, gathered, grouped, linked_extension, Links, links_of, is_place, belonging, extended_place, kind_of_code, linked_default, linked_kind, linked_field, declared_fields, natural_or_zero, FieldRow, TableRows, ResolvedRow, resolve, resolved_field, resolved_extension}
+use Rattle.prost_reflect_tables.proofs.Common.{Bool, List, [], map, Option, Some, None, refl, sym, ap, ap₂, ◌∙◌, String, list_any, ℕ, FieldDescriptorProto, DefinitionRow, FlatMessageRow, FlatRows, message_names, enum_names, names_nothing, place_named, type_unknown, extendee_unknown, extension_outside, is_message_type, is_enum_type, Numbered, number_or_zero, numbered_at, numbered_extensions, is_of_entry, wrongly_of_entry, default_bad, float_default_bad, gathered, Links, links_of, extended_place, kind_of_code, linked_default, linked_kind, natural_or_zero, ResolvedRow, resolve}
 use Rattle.std.proofs.Common.{Global}
-use Rattle.std.specs.Prelude.{unwrap_or, ◌≡◌, ◌||◌, ◌++◌, ◌∷◌, ◌+◌, ◌&&◌}
+use Rattle.std.specs.Prelude.{unwrap_or, ◌≡◌, ◌||◌, ◌++◌, ◌∷◌, ◌&&◌}
 use Rattle.prost_reflect_tables.proofs.Gathering.{rows_gathered}
 use Rattle.prost_reflect_tables.specs.ResolvedFaults.{unfound, type_unfound, extendee_unfound, found_outside, numbered_found, found_of_entry, wrongly_found, bad_read, bad_float}
 
@@ -80,55 +80,7 @@ numbered_is rows (d ∷ ds) =
 -- LINKING
 
 module _ (links : Links) where
-  field_is : (x : Bool) (d : DefinitionRow FieldDescriptorProto) → resolved_field x (resolve links d) ≡ linked_field links x d
-  unfolding resolve resolved_field linked_field
-  field_is x d = refl
-
-  extendee_same : (d : DefinitionRow FieldDescriptorProto) → (resolve links d).extendee ≡ extended_place links d
-  unfolding resolve
-  extendee_same d = refl
-
-  fields_are : (x : Bool) (ds : List (DefinitionRow FieldDescriptorProto)) → map (resolved_field x) (map (resolve links) ds) ≡ map (linked_field links x) ds
-  fields_are x [] = refl
-  fields_are x (d ∷ ds) = ap (λ f. f ∷ map (resolved_field x) (map (resolve links) ds)) (field_is x d) ∙ ap (λ l. linked_field links x d ∷ l) (fields_are x ds)
-
-  pub lists_are : (ms : List FlatMessageRow) →
-      map (λ (fs : List ResolvedRow). map (resolved_field false) fs) (map (λ (m : FlatMessageRow). map (resolve links) m.fields) ms) ≡ map (λ (m : FlatMessageRow). declared_fields links m.fields) ms
-  lists_are [] = refl
-  lists_are (m ∷ ms) =
-      ap (λ l. l ∷ map (λ (fs : List ResolvedRow). map (resolved_field false) fs) (map (λ (m : FlatMessageRow). map (resolve links) m.fields) ms)) (fields_are false m.fields)
-      ∙ ap (λ l. declared_fields links m.fields ∷ l) (lists_are ms)
-
-  belonging_step : (d : DefinitionRow FieldDescriptorProto) (b : Bool) (rs : List ResolvedRow) (es : List (DefinitionRow FieldDescriptorProto)) →
-      map (resolved_field true) rs ≡ map (linked_field links true) es → map (resolved_field true) (cond b (resolve links d ∷ rs) rs) ≡ map (linked_field links true) (cond b (d ∷ es) es)
-  belonging_step d true rs es e = ap (λ f. f ∷ map (resolved_field true) rs) (field_is true d) ∙ ap (λ l. linked_field links true d ∷ l) e
-  belonging_step d false rs es e = e
-
-  belonging_are : (T : ℕ) (ds : List (DefinitionRow FieldDescriptorProto)) →
-      map (resolved_field true) (belonging (λ (r : ResolvedRow). r.extendee) (map (resolve links) ds) T) ≡ map (linked_field links true) (belonging (extended_place links) ds T)
-  belonging_are T [] = refl
-  belonging_are T (d ∷ ds) =
-      let rs = belonging (λ (r : ResolvedRow). r.extendee) (map (resolve links) ds) T in
-      ap (λ (p : Option ℕ). map (resolved_field true) (cond (is_place T p) (resolve links d ∷ rs) rs)) (extendee_same d)
-      ∙ belonging_step d (is_place T (extended_place links d)) rs (belonging (extended_place links) ds T) (belonging_are T ds)
-
-  pub grouped_are : (ds : List (DefinitionRow FieldDescriptorProto)) (i : ℕ) (lists : List (List FieldRow)) →
-      grouped (λ (r : ResolvedRow). r.extendee) (resolved_field true) (map (resolve links) ds) i lists ≡ grouped (extended_place links) (linked_field links true) ds i lists
-  grouped_are ds i [] = refl
-  grouped_are ds i (fs ∷ lists) =
-      ap (λ l. (fs ++ l) ∷ grouped (λ (r : ResolvedRow). r.extendee) (resolved_field true) (map (resolve links) ds) (i + 1) lists) (belonging_are i ds)
-      ∙ ap (λ l. (fs ++ map (linked_field links true) (belonging (extended_place links) ds i)) ∷ l) (grouped_are ds (i + 1) lists)
-
   -- THE CATALOG
-
-  extension_is : (linked : TableRows) (d : DefinitionRow FieldDescriptorProto) → resolved_extension linked (resolve links d) ≡ linked_extension links linked d
-  unfolding resolve
-  extension_is linked d = refl
-
-  pub extensions_are : (linked : TableRows) (ds : List (DefinitionRow FieldDescriptorProto)) → map (resolved_extension linked) (map (resolve links) ds) ≡ map (linked_extension links linked) ds
-  extensions_are linked [] = refl
-  extensions_are linked (d ∷ ds) =
-      ap (λ e. e ∷ map (resolved_extension linked) (map (resolve links) ds)) (extension_is linked d) ∙ ap (λ l. linked_extension links linked d ∷ l) (extensions_are linked ds)
 
   pub extending_are : (ds : List (DefinitionRow FieldDescriptorProto)) (n : ℕ) → gathered (λ (r : ResolvedRow). r.extendee) (map (resolve links) ds) 0 n ≡ gathered (extended_place links) ds 0 n
   unfolding resolve

@@ -3,12 +3,12 @@ use Rattle.std.specs.Prelude.{◌≡◌, Bool, true, ◌&&◌, nat_eq, refl}
 use Rattle.std.specs.Bool.{Decides, beq}
 use Rattle.std.specs.Option.{option_eq}
 use Rattle.std.specs.Ordering.{int_eq}
-use Rattle.std.specs.Cmp.{IsEquivalence, unsigned_Decides, signed_Decides, booleans_Decides}
+use Rattle.std.specs.Cmp.{unsigned_Decides, signed_Decides, booleans_Decides}
 use Rattle.std.specs.Cmp.Lexicographic.{pointwise}
 use Rattle.std.proofs.Common.{sym, ap, true≢false}
 use Rattle.std.proofs.lemmas.Bool.Decides.{Decides-and, Decides-like}
 use Rattle.prost_reflect_wire.specs.Scalar.{scalar_eq}
-use Rattle.prost_reflect_wire.specs.Deciding.{decided, equivalence, list_decides, option_decides, text_decides, scalar_decides}
+use Rattle.prost_reflect_wire.specs.Deciding.{decided, list_decides, option_decides, text_decides, scalar_decides}
 use Rattle.prost_reflect_tables.specs.declared.tables.Cardinality.{Cardinality}
 use Rattle.prost_reflect_tables.specs.declared.tables.Cardinality.TheVariants as labels
 use Rattle.prost_reflect_tables.specs.declared.tables.TableKind.{TableKind}
@@ -159,6 +159,3 @@ rows_decide r s = Decides-like (rows_eq r s) (λ h i. record { messages = h.0 i;
     (Decides-and _ _ (list_decides message_decides r.messages s.messages) (list_decides enum_decides r.enums s.enums))
 
 -- LAWS
-
-pub rows_equivalence : IsEquivalence rows_eq
-rows_equivalence = equivalence rows_eq rows_decide

@@ -174,10 +174,13 @@ names_in_services (s ∷ ss) = (s.definition.full_name ∷ []) ++ names_of s.met
 abbrev pub full_names : FlatRows → List (List ℕ)
 full_names rows = names_in_messages rows.messages ++ names_in_enums rows.enums ++ names_of rows.extensions ++ names_in_services rows.services
 
--- A name stands among those before it.
+-- One stands among those before it.
+abbrev pub repeats_by : {X : Type 0} → (X → X → Bool) → (before : List X) → List X → Bool
+repeats_by same before [] = false
+repeats_by same before (x ∷ xs) = list_any (same x) before || repeats_by same (before ++ x ∷ []) xs
+
 abbrev pub repeats : (before : List (List ℕ)) → List (List ℕ) → Bool
-repeats before [] = false
-repeats before (n ∷ names) = list_any (bytes_eq n) before || repeats (before ++ n ∷ []) names
+repeats = repeats_by bytes_eq
 
 abbrev pub duplicate_name : FlatRows → Bool
 duplicate_name rows = repeats [] (full_names rows)
@@ -275,10 +278,8 @@ all_numbered rows = numbered_in 0 rows.messages ++ numbered_extensions rows rows
 abbrev pub same_numbered : Numbered → Numbered → Bool
 same_numbered a b = nat_eq a.message b.message && int_eq a.number b.number
 
--- One stands among those before it.
 abbrev pub number_repeats : (before : List Numbered) → List Numbered → Bool
-number_repeats before [] = false
-number_repeats before (n ∷ numbers) = list_any (same_numbered n) before || number_repeats (before ++ n ∷ []) numbers
+number_repeats = repeats_by same_numbered
 
 abbrev pub duplicate_number : FlatRows → Bool
 duplicate_number rows = number_repeats [] (all_numbered rows)

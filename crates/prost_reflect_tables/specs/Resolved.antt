@@ -1,14 +1,12 @@
 -- Fields and extensions with what their texts mean, each text looked up once.
-use Rattle.std.specs.Prelude.{◌≡◌, ℕ, Bool, List, map, Option, option_map, unwrap_or, Vec}
+use Rattle.std.specs.Prelude.{◌≡◌, ℕ, Bool, List, map, Option, option_map, Vec}
 use Rattle.std.specs.declared.alloc.Global.{Global}
 use Rattle.prost_reflect_types.specs.declared.FieldDescriptorProto.{FieldDescriptorProto}
 use Rattle.prost_reflect_wire.specs.Scalar.{Scalar}
 use Rattle.prost_reflect_tables.specs.declared.tables.TableKind.{TableKind}
 use Rattle.prost_reflect_tables.specs.declared.build.resolve.ResolvedField.{ResolvedField}
 use Rattle.prost_reflect_tables.specs.declared.build.resolve.Resolved.{Resolved}
-use Rattle.prost_reflect_tables.specs.Rows.{FieldRow, TableRows, written_scalar}
-use Rattle.prost_reflect_tables.specs.CatalogRows.{ExtensionRow}
-use Rattle.prost_reflect_tables.specs.LinkedCatalog.{extension_of}
+use Rattle.prost_reflect_tables.specs.Rows.{FieldRow, written_scalar}
 use Rattle.prost_reflect_tables.specs.Flat.{DefinitionRow, FlatRows}
 use Rattle.prost_reflect_tables.specs.Faults.{place_named}
 use Rattle.prost_reflect_tables.specs.EntryFaults.{is_entry}
@@ -51,10 +49,6 @@ resolved_lists lists = map (λ fields. map resolved_row fields.items) lists
 -- The row that it gives.
 unfoldable pub resolved_field : (is_extension : Bool) → ResolvedRow → FieldRow
 resolved_field is_extension r = field_with is_extension r.definition r.kind r.default
-
--- Where that of an extension stands; one that extends nothing counts as of the first message.
-abbrev pub resolved_extension : TableRows → ResolvedRow → ExtensionRow
-resolved_extension linked r = extension_of linked (unwrap_or r.extendee 0) r.definition
 
 -- The index of names, the flags of entries, and the fields of each message and the extensions, resolved.
 pub record IsResolved (resolved : Resolved) (rows : FlatRows) : Type 0 where

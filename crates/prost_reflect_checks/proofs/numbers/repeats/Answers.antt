@@ -1,28 +1,19 @@
-use Rattle.std.specs.Prelude.{◌≡◌}
-use Rattle.prost_reflect_checks.proofs.Common.{◌∙◌, ℕ, ℤ, false, true, get_or, take, pos, sym, list_any, not-true, not-false, same_numbered, numbered, numbered_list}
-use Rattle.prost_reflect_tables.proofs.NamePlaces.{list_any_push}
-use Rattle.prost_reflect_tables.proofs.Numbering.{numbers_more, number_repeats_more, number_repeats_found, number_seen}
+use Rattle.prost_reflect_checks.proofs.Common.{ℕ, ℤ, length, refl, ap, same_numbered, numbered}
+use Rattle.prost_reflect_checks.proofs.Repeats.{alike, fewer}
+use Rattle.std.specs.Cmp.{IsEquivalence, both_tied, unsigned_ties}
+use Rattle.std.proofs.lemmas.Cmp.{and_equiv, int_cmp_total, int_eq_equiv, nat_cmp_total, nat_eq_equiv, on_equiv, on_total, then_total}
+use Rattle.std.proofs.lemmas.List.Filters.{dedup_is}
+use Rattle.prost_reflect_tables.specs.Faults.{Numbered}
 use Rattle.prost_reflect_checks.proofs.numbers.repeats.Goals as goal
 
-pub loop-number-preserved : goal.loop-number-preserved
-loop-number-preserved c =
-    let numbers = c.args.numbers.now in
-    let i = c.loop-number.number-index in
-    let none : ℕ × ℤ = (0, pos 0) in
-    let key = get_or numbers i none in
-    let more = numbers_more numbers i none c.loop-number-test.true in
-    let new : list_any (same_numbered (numbered key)) (numbered_list (take i numbers)) ≡ false =
-    sym (c.loop-number.invariant.seen key) ∙ not-true _ (sym c.in_ok-insert.ensures.added ∙ c.if-not-branch.false) in
-    record {
-      seen = λ q. rw (more, list_any_push) (c.in_ok-insert.ensures.updates.0 q ∙ number_seen key q (c.loop-number.invariant.seen q));
-      left = c.loop-number.invariant.left ∙ number_repeats_more numbers i none c.loop-number-test.true new;
-    }
+equal : IsEquivalence same_numbered
+equal = and_equiv (on_equiv (λ (n : Numbered). n.message) nat_eq_equiv) (on_equiv (λ (n : Numbered). n.number) int_eq_equiv)
 
-pub returns-then-not-branch : goal.returns-then-not-branch
-returns-then-not-branch c =
-    let numbers = c.args.numbers.now in
-    let i = c.loop-number.number-index in
-    let none : ℕ × ℤ = (0, pos 0) in
-    let found : list_any (same_numbered (numbered (get_or numbers i none))) (numbered_list (take i numbers)) ≡ true =
-    sym (c.loop-number.invariant.seen (get_or numbers i none)) ∙ not-false _ (sym c.in_ok-insert.ensures.added ∙ c.if-not-branch.true) in
-    sym (c.loop-number.invariant.left ∙ number_repeats_found numbers i none c.loop-number-test.true found)
+pub returns : goal.returns
+returns c =
+    let sorted = c.sort_unstable.new.self.items in
+    let left = c.dedup.new.self.items in
+    fewer same_numbered equal numbered _ (then_total (on_total (λ (p : ℕ × ℤ). p.0) nat_cmp_total) (on_total (λ (p : ℕ × ℤ). p.1) int_cmp_total))
+    (λ x y. both_tied _ _ _ _ (unsigned_ties x.0 y.0) refl) c.args.numbers.now.items sorted left
+    c.sort_unstable.ensures.permutation c.sort_unstable.ensures.sorted (dedup_is (alike same_numbered equal numbered) sorted left c.dedup.ensures.filtered)
+    _ _ (ap length c.as_slice.ensures.value) (ap length c.as_slice-count.ensures.value)
