@@ -99,7 +99,7 @@ pub use Rattle.prost_reflect_fields.specs.formers.field_set.FieldSet.{slot_forme
 pub use Rattle.prost_reflect_maps.proofs.ItemChanges.{Apart, apart_back, apart_of, at_each, by_number, itself, none_above, put_apart, put_same, with_apart, with_same}
 pub use Rattle.prost_reflect_fields.proofs.Siblings.{siblings_back, siblings_self}
 pub use Rattle.prost_reflect_fields.proofs.SlotChanges.{ascending_put, ascending_with_value, ascending_without_values, item_without, records_without, value_without, value_written, value_written_apart}
-pub use Rattle.prost_reflect_dynamic.specs.Access.{HadContent, HasOneField, HasOneMember, IsDefaultAt, IsLentIf, IsLentOf, IsOwnField, IsStoredOr, NameFound, NameMissing, NumberFound, NumberMissing, TakesFound, had_at, has_at, is_field_number, left_at, left_if, number_declared, number_named, number_of, saying, says_nothing, takes, takes_at}
+pub use Rattle.prost_reflect_dynamic.specs.Access.{HadContent, HasOneMember, IsDefaultAt, IsLentIf, IsLentOf, IsOwnField, IsStoredOr, NameFound, NameMissing, NumberFound, NumberMissing, TakesFound, had_at, has_at, is_field_number, left_at, left_if, number_declared, number_named, number_of, saying, says_nothing, takes, takes_at}
 pub use Rattle.prost_reflect_dynamic.specs.ContentLaws.{MapInsert, MessageOrder, MessageSlots, SlotsAfterClear, SlotsAfterSet, SlotsAfterUnknown, SlotsDetermine, ValueViews, compare_keys, pairs_shown}
 pub use Rattle.prost_reflect_dynamic.specs.Contents.{cleared_if, entries_without, in_entries, set_if, unknown_added, value_cleared, value_set, values_taken, with_unknown}
 pub use Rattle.prost_reflect_dynamic.specs.Copies.{SameSlot, SameStored, SameStoring, pairs_seen}
@@ -124,7 +124,7 @@ pub use Rattle.prost_reflect_dynamic.specs.Nested.{HeldMessage, NestedFault, Nes
 pub use Rattle.prost_reflect_dynamic.specs.NestedMaps.{AreEntries, NestedMap, NestedMapOfRows, ReadsNestedEntry, RefusesNestedEntry, nested_entry_bytes, nested_pairs_bytes}
 pub use Rattle.prost_reflect_dynamic.specs.Numbers.{BodyTaken, JoinsNumbers, NumberList, PartsNumbers, declared_in, is_stray_varint, number_element, numbers_taken, strays_in, varints_added}
 pub use Rattle.prost_reflect_dynamic.specs.Paths.{HeldPath, IsSetAt, PATH_LIMIT, SetInHeld, field_at, field_led, message_inside, own_field, path_place, place_behind, row_led, type_inside}
-pub use Rattle.prost_reflect_dynamic.specs.Places.{GivesNext, places_from, places_left}
+pub use Rattle.prost_reflect_walks.specs.Places.{GivesNext}
 pub use Rattle.prost_reflect_dynamic.specs.Present.{entry_present, kept_slot, number_listed, present_in, slot_present, unknown_present, value_present}
 pub use Rattle.prost_reflect_dynamic.specs.PresentWalks.{ExtensionItem, FieldItem, IsItem, IsOwn, NestsInside, PresentItem, UnknownItem, all_items, items_of, present_items, present_left, present_steps, slot_items, unknown_items, value_items, value_or, waiting_items}
 pub use Rattle.prost_reflect_dynamic.specs.RowKinds.{is_plain, is_plain_kind, names_message}
@@ -138,7 +138,7 @@ pub use Rattle.prost_reflect_dynamic.specs.UnknownLists.{UnknownListed, all_unkn
 pub use Rattle.prost_reflect_dynamic.specs.ValueLists.{IsExtensionPair, IsFieldPair, extensions_left, extensions_steps, fields_left, fields_steps, had_in, had_numbers, had_pairs, had_values, said, values_left}
 pub use Rattle.prost_reflect_dynamic.specs.Variants.{key_among, key_in, list_in, message_in}
 pub use Rattle.prost_reflect_dynamic.specs.View.{content_of, entries_from, key_of, message_step, message_type_of, overwritten_at, pairs_from, payloads_of, slot_of, stored_in, value_of, value_step, written_at}
-pub use Rattle.prost_reflect_dynamic.specs.Walks.{EachGiven, EachTaken, GivesEach, descriptor_steps}
+pub use Rattle.prost_reflect_walks.specs.Walks.{EachGiven}
 pub use Rattle.prost_reflect_dynamic.specs.declared.descriptor.extension.ExtensionDescriptor.{ExtensionDescriptor}
 pub use Rattle.prost_reflect_dynamic.specs.declared.descriptor.field.FieldDescriptor.{FieldDescriptor}
 pub use Rattle.prost_reflect_dynamic.specs.declared.descriptor.message.MessageDescriptor.{MessageDescriptor}

@@ -7,7 +7,7 @@ use Rattle.std.specs.declared.collections.BTreeMap.{BTreeMap}
 use Rattle.prost_reflect_fields.specs.FieldSlots.{with_value}
 use Rattle.prost_reflect_fields.specs.declared.slot.FieldSlot.TheVariants as slots
 use Rattle.prost_reflect_dynamic.proofs.Had.{has_found}
-use Rattle.prost_reflect_dynamic.proofs.Walks.{gives}
+use Rattle.prost_reflect_walks.proofs.Walks.{gives}
 use Rattle.prost_reflect_dynamic.specs.declared.message.lists.had.Fields.{Fields}
 use Rattle.prost_reflect_dynamic.specs.declared.message.lists.had.Extensions.{Extensions}
 use Rattle.prost_reflect_dynamic.specs.declared.value.Value as values

@@ -6,10 +6,6 @@ use Rattle.prost_reflect_dynamic.proofs.Common.{ℕ, true, length, map, Some, ap
 pub schema_at_valid : (m : PooledType) → schema_valid (schema_at m) ≡ true
 schema_at_valid m = schema_is_valid (pool_rows m.pool) m.pool.value.tables.linked
 
-pub type_in_schema : (m : PooledType) → type_at m < length (schema_at m)
-unfolding schema_from
-type_in_schema m = rw length-map m.in_range
-
 -- So each of its fields passes the check.
 pub found_checked : (m : PooledType) (n : ℕ) (f : Field) → field_of (known (schema_at m) (type_at m)) n ≡ Some f → field_valid (schema_at m) f ≡ true
 found_checked m n f found = found_valid (schema_at m) (known (schema_at m) (type_at m)) n f (known_valid (schema_at m) (type_at m) (schema_at_valid m)) found
@@ -32,17 +28,9 @@ named_below rows linked S n f T found names =
 pub named_in_range : (m : PooledType) (n : ℕ) (f : Field) (T : ℕ) → field_of (known (schema_at m) (type_at m)) n ≡ Some f → message_of_kind f.value_type.kind ≡ Some T → T < length (pool_rows m.pool).messages
 named_in_range m n f T found names = named_below (pool_rows m.pool) m.pool.value.tables.linked (type_at m) n f T found names
 
--- The known fields are the rows, shown.
-pub known_at : (m : PooledType) → known (schema_at m) (type_at m) ≡ map (schema_field (pool_rows m.pool)) (fields_of m)
-known_at m = known_rows (pool_rows m.pool) m.index
-
 pub field_at_number : (m : PooledType) (n : ℕ) → field_of (known (schema_at m) (type_at m)) n ≡ option_map (schema_field (pool_rows m.pool)) (row_of (fields_of m) n)
 field_at_number m n = field_of_number (pool_rows m.pool) m.index n
 
 -- Under the number of a row that row is known, shown.
 pub known_of_row : (m : PooledType) (i : ℕ) (f : FieldRow) → slice_get (fields_of m) i ≡ Some f → field_of (known (schema_at m) (type_at m)) f.number ≡ Some (schema_field (pool_rows m.pool) f)
 known_of_row m i f at = known_row (pool_rows m.pool) m.index i f m.pool.value.tables.linked at
-
--- Descriptors of one message type have one schema.
-pub same_schema : (a b : PooledType) → SameMessage a b → schema_at b ≡ schema_at a
-same_schema a b same = ap schema_from same.1

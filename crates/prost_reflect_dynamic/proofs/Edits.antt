@@ -99,9 +99,6 @@ clears m new n s type is typed depth = record {
   depth = depth;
 }
 
-pub clears_none : (m : DynamicMessage) → Removes (cleared_if None) m m
-clears_none m = record { message_type = refl; content = refl; held = refl; sound = λ w. w; encodable = λ h. h; typed = λ h. h; depth = omega arith }
-
 pub is_gone : (m new : DynamicMessage) (n : ℕ) → IsAscending (stored_in m) → content_of new ≡ value_cleared n (content_of m) → has_at n (content_of new) ≡ false
 is_gone m new n s is = ap (has_at n) is ∙ clear_gone (content_of m) n (message_arranged m s)
 

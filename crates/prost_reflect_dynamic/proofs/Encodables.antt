@@ -92,9 +92,6 @@ some_of None v h = cc
 some_of (Some w) v h = refl
 
 module _ (m : DynamicMessage) (s : IsAscending (stored_in m)) (sound : IsSound (message_type_of m) (stored_in m)) (all : slots_pass (λ n v. value_arranged v) (stored_in m) ≡ true) where
-  abbrev shown_entries : Entries
-  shown_entries = entries_from (shown (stored_in m))
-
   value_is : (k : ℕ) → contents.value_at k (entries_from (shown (stored_in m))) ≡ option_map value_of (stored_at (stored_in m) k)
   value_is k = sym (ap (λ c. contents.value_at k (entries_of c)) (content_of_message m)) ∙ ap (λ (slot : Slot). slot.value) (message_slots m k s)
 

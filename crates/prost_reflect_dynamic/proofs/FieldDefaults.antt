@@ -10,33 +10,11 @@ use Rattle.prost_reflect_dynamic.proofs.PlainKinds.{single_row, own_of}
 
 -- LISTS AND MAPS
 
-pub map_default : (schema : Schema) (form : FieldForm) (t : ValueType) → is_map form ≡ true → default_value schema form t ≡ MapValue NoPairs
-map_default schema Singular t h = absurd (true≢false (sym h))
-map_default schema (Repeated packed) t h = absurd (true≢false (sym h))
-map_default schema (MapFrom key) t h = refl
-
-pub list_default : (schema : Schema) (rows : TableRows) (row : FieldRow) → is_map (schema_field rows row).form ≡ false → is_repeated row.cardinality ≡ true
-    → default_value schema (schema_field rows row).form (schema_field rows row).value_type ≡ ListValue NoValues
-list_default schema rows row bare many = go row.cardinality (map_entry rows.messages row row.cardinality) (schema_field rows row).value_type many bare
-  where
-    go : (c : Cardinality) (entry : Option MessageRow) (t : ValueType) → is_repeated c ≡ true → is_map (form_of rows.enums row c entry) ≡ false → default_value schema (form_of rows.enums row c entry) t ≡ ListValue NoValues
-    go Optional entry t many bare = absurd (true≢false (sym many))
-    go Required entry t many bare = absurd (true≢false (sym many))
-    go RepeatedLabel None t many bare = refl
-    go RepeatedLabel (Some m) t many bare = absurd (true≢false bare)
-
 -- ONE VALUE
 
 module _ (schema : Schema) (rows : TableRows) (row : FieldRow) (single : is_repeated row.cardinality ≡ false) where
   by_own : default_value schema (schema_field rows row).form (schema_field rows row).value_type ≡ default_of schema (own_type rows.enums row) (schema_kind rows.enums row.kind row.is_group)
   by_own = λ i. default_value schema (single_row rows row single i) (own_of rows row (single_row rows row single) i)
-
-  pub message_default : (T : ℕ) → row.kind ≡ kinds.Message T → default_value schema (schema_field rows row).form (schema_field rows row).value_type ≡ MessageValue (empty schema T)
-  message_default T is = by_own ∙ ap (λ kind. default_of schema (own_type rows.enums row) (schema_kind rows.enums kind row.is_group)) is ∙ go row.is_group
-    where
-      go : (g : Bool) → default_of schema (own_type rows.enums row) (schema_kind rows.enums (kinds.Message T) g) ≡ MessageValue (empty schema T)
-      go true = refl
-      go false = refl
 
   pub scalar_default : IsSome (plain_kind row.kind) → default_value schema (schema_field rows row).form (schema_field rows row).value_type ≡ ScalarValue (own_type rows.enums row).default
   scalar_default some = by_own ∙ go (own_type rows.enums row) row.kind some
@@ -60,13 +38,6 @@ place_in_range rows row T valid single is =
     go false h = ltb-true T (length (schema_from rows)) (and_parts _ _ h).0
 
 -- A ROW'S DEFAULT
-
-pub elements_default : (rows : TableRows) (row : FieldRow) (v : Value) → is_repeated row.cardinality ≡ true → (is_map (schema_field rows row).form ≡ true → v ≡ MapValue NoPairs) → (is_map (schema_field rows row).form ≡ false → v ≡ ListValue NoValues) → v ≡ row_default rows row
-elements_default rows row v many map list = go (is_map (schema_field rows row).form) refl
-  where
-    go : (b : Bool) → is_map (schema_field rows row).form ≡ b → v ≡ row_default rows row
-    go true e = map e ∙ sym (map_default (schema_from rows) (schema_field rows row).form (schema_field rows row).value_type e)
-    go false e = list e ∙ sym (list_default (schema_from rows) rows row e many)
 
 -- an empty value is the default of a list or a map
 pub empty_is : (schema : Schema) (form : FieldForm) (t : ValueType) (v : Value) → is_singular form ≡ false → IsTrue (is_empty_value form v) ↔ (v ≡ default_value schema form t)
@@ -102,25 +73,9 @@ module _ (pool : Rc LinkedPool Global) (row : FieldRow) (v : Owned) where
   many_place : is_repeated row.cardinality ≡ true → single_place row ≡ None
   many_place many = ap (λ b. cond b None (place_named row.kind)) many
 
-  message_place : (T : ℕ) → is_repeated row.cardinality ≡ false → row.kind ≡ kinds.Message T → single_place row ≡ Some T
-  message_place T single is = ap (λ b. cond b None (place_named row.kind)) single ∙ ap place_named is
-
-  scalar_place : is_repeated row.cardinality ≡ false → IsSome (plain_kind row.kind) → single_place row ≡ None
-  scalar_place single some = ap (λ b. cond b None (place_named row.kind)) single ∙ go row.kind some
-    where
-      go : (kind : TableKind) → IsSome (plain_kind kind) → place_named kind ≡ None
-      go (kinds.Message T) some = absurd (true≢false (sym some))
-      go kind some = refl
-
   -- made
   pub elements_are : is_repeated row.cardinality ≡ true → value_of v ≡ row_default (pool_rows pool) row → IsRowDefault pool row v
   elements_are many is = subst By (sym (many_place many)) is
-
-  pub message_is : (T : ℕ) → is_repeated row.cardinality ≡ false → row.kind ≡ kinds.Message T → IsEmptyOf pool T (message_in (out-Value v)) → IsRowDefault pool row v
-  message_is T single kind is = subst By (sym (message_place T single kind)) is
-
-  pub scalar_is : is_repeated row.cardinality ≡ false → IsSome (plain_kind row.kind) → value_of v ≡ row_default (pool_rows pool) row → IsRowDefault pool row v
-  scalar_is single some is = subst By (sym (scalar_place single some)) is
 
   -- tested
   pub elements_tested : (b : Bool) → is_repeated row.cardinality ≡ true → b ≡ is_empty_value (schema_field (pool_rows pool) row).form (value_of v) → IsTrue b ↔ IsRowDefault pool row v
@@ -128,11 +83,3 @@ module _ (pool : Rc LinkedPool Global) (row : FieldRow) (v : Owned) where
       let rows = pool_rows pool in
       let test = empty_is (schema_from rows) (schema_field rows row).form (schema_field rows row).value_type (value_of v) (many_form rows row many) in
       (λ yes. elements_are many (test.0 (sym is ∙ yes)), λ h. is ∙ test.1 (subst By (many_place many) h))
-
-  pub message_tested : (T : ℕ) (b : Bool) → is_repeated row.cardinality ≡ false → row.kind ≡ kinds.Message T → IsTrue b ↔ IsEmptyOf pool T (message_in (out-Value v)) → IsTrue b ↔ IsRowDefault pool row v
-  message_tested T b single kind is = (λ yes. message_is T single kind (is.0 yes), λ h. is.1 (subst By (message_place T single kind) h))
-
-  pub scalar_tested : (s : Scalar) (b : Bool) → is_repeated row.cardinality ≡ false → IsSome (plain_kind row.kind) → s ≡ (own_type (pool_rows pool).enums row).default → IsTrue b ↔ (value_of v ≡ ScalarValue s) → IsTrue b ↔ IsRowDefault pool row v
-  scalar_tested s b single some default is =
-      let same : ScalarValue s ≡ row_default (pool_rows pool) row = ap ScalarValue default ∙ sym (scalar_default (schema_from (pool_rows pool)) (pool_rows pool) row single some) in
-      (λ yes. scalar_is single some (is.0 yes ∙ same), λ h. is.1 (subst By (scalar_place single some) h ∙ sym same))

@@ -54,30 +54,3 @@ zero_of kind s is other = record { named = ap ScalarValue is; taken = ap (kind_t
 pub scalar_kind : (kind : Kind) → IsScalar (default_named kind) → IsSome (plain_kind (table_kind kind))
 scalar_kind (kinds.Message message) h = absurd h
 scalar_kind kind h = refl
-
--- KEYS
-
--- the default of a kind of keys is a key without text
-pub record KeyDefault (s : Scalar) : Type 0 where
-  pub blank : IsBlank s
-  pub key : key_among s ≡ Some s
-
-pub key_default : (kind : Kind) (s : Scalar) → is_key_kind kind ≡ true → ScalarValue s ≡ default_named kind → KeyDefault s
-key_default kind s h is = go kind h is
-  where
-    at : (t : Scalar) → ScalarValue s ≡ ScalarValue t → KeyDefault t → KeyDefault s
-    at t same shown = let equal : s ≡ t = cc in subst KeyDefault (sym equal) shown
-
-    go : (kind : Kind) → is_key_kind kind ≡ true → ScalarValue s ≡ default_named kind → KeyDefault s
-    go kinds.Double h is = absurd (true≢false (sym h))
-    go kinds.Float h is = absurd (true≢false (sym h))
-    go kinds.Bytes h is = absurd (true≢false (sym h))
-    go (kinds.Message message) h is = absurd (true≢false (sym h))
-    go (kinds.Enum e) h is = absurd (true≢false (sym h))
-    go kinds.Bool h is = at (scalars.Boolean false) is (record { blank = tt; key = refl })
-    go kinds.String h is = at (scalars.Text []) is (record { blank = refl; key = refl })
-    go kind h is = at _ is (record { blank = tt; key = refl })
-
-pub key_scalar : (kind : Kind) → is_key_kind kind ≡ true → IsScalar (default_named kind)
-key_scalar (kinds.Message message) h = absurd (true≢false (sym h))
-key_scalar kind h = tt

@@ -7,19 +7,6 @@ use Rattle.prost_reflect_dynamic.proofs.NestedReads.{schema_in, held_is, held_of
 use Rattle.prost_reflect_dynamic.proofs.Paths.{not_empty}
 use Rattle.prost_reflect_dynamic.proofs.SetPaths.{default_message, set_one, set_more}
 
--- the first number of a path is known
-first_known : (m : DynamicMessage) (n : ℕ) (rest : List ℕ) (v : contents.Value) → PathTo (schema_of (content_of m)) (type_of (content_of m)) (n ∷ rest) v → (f : Field) × (field_of (known_of (message_type_of m)) n ≡ Some f)
-first_known m n [] v (f, found, more) = (f, ap (λ fields. field_of fields n) (sym (known_in m)) ∙ found)
-first_known m n (k ∷ rest) v (f, found, single, more) = (f, ap (λ fields. field_of fields n) (sym (known_in m)) ∙ found)
-
-some_is : {A : Type 0} (o : Option A) (x : A) → o ≡ Some x → is_some o ≡ true
-some_is o x e = ap is_some e
-
-pub path_known : (m : DynamicMessage) (n : ℕ) (path rest : List ℕ) (v : contents.Value) → path ≡ n ∷ rest → PathTo (schema_of (content_of m)) (type_of (content_of m)) path v → is_known (known_of (message_type_of m)) n ≡ true
-path_known m n path rest v e to =
-    let (f, found) = first_known m n rest v (subst (λ p. PathTo (schema_of (content_of m)) (type_of (content_of m)) p v) e to) in
-    some_is (field_of (known_of (message_type_of m)) n) f found
-
 -- at its last number
 pub set_last : (m : DynamicMessage) (d : Content) (n : ℕ) (path rest : List ℕ) (v : contents.Value) → WellStored (content_of m) → path ≡ n ∷ rest → nat_eq (length rest) 0 ≡ true → PathTo (schema_of (content_of m)) (type_of (content_of m)) path v →
     d ≡ value_set n v (content_of m) → IsSetAt path v (content_of m) d

@@ -1,5 +1,4 @@
 mod Common
-mod Walks
 mod Depths
 pub mod ScalarReads
 pub mod RowKinds
@@ -44,7 +43,6 @@ mod ListMerging
 mod NumberMerging
 mod PartedNumbers
 mod WrittenLists
-pub mod PlaceRanges
 pub mod Had
 pub mod OwnFields
 mod OwnExtensions

@@ -2,7 +2,7 @@
 use Rattle.std.specs.Prelude.{◌≡◌, ◌≢◌, ◌&&◌, ◌∷◌, ◌++◌}
 use Rattle.prost_reflect_dynamic.proofs.Common.{ℕ, true, false, List, [], map, Option, Some, None, refl, sym, ap, ◌∙◌, subst, IsSomeAnd, WireType, DecodeError, DelimitedFront, PlainFault, ScalarKind, kind_wire, is_packable, ScalarValue, same_wire, ScalarRead, ScalarFault, map-append, TableKind, Value, value_of, plain_kind, HasWire, ReadsScalar, RefusesScalar, AddsPacked, RefusesPacked, AddsElements, RefusesElements}
 use Rattle.prost_reflect_wire.specs.declared.key.WireType.TheVariants as wires
-use Rattle.prost_reflect_laws.proofs.PackedElements.{ElementsSoFar, elements_none, elements_more, elements_done, elements_fault, packed_read, single_read, packed_refused, delimited_refused, single_refused}
+use Rattle.prost_reflect_laws.proofs.PackedElements.{ElementsSoFar, elements_more, elements_done, elements_fault, packed_read, single_read, packed_refused, delimited_refused, single_refused}
 use Rattle.prost_reflect_dynamic.proofs.Merging.{same_kind}
 
 -- PACKED
@@ -12,13 +12,6 @@ pub record PackedSoFar (kind : TableKind) (old new : List Value) (body rest : Li
   pub plain : plain_kind kind ≡ Some scalar_kind
   pub packable : is_packable scalar_kind ≡ true
   pub elements : ElementsSoFar scalar_kind (map value_of old) (map value_of new) body rest
-
-pub packed_none : (kind : TableKind) (old : List Value) (body : List ℕ) → IsSomeAnd (plain_kind kind) (λ k. is_packable k ≡ true) → PackedSoFar kind old old body body
-packed_none kind old body h = go (plain_kind kind) refl h
-  where
-    go : (o : Option ScalarKind) → plain_kind kind ≡ o → IsSomeAnd o (λ k. is_packable k ≡ true) → PackedSoFar kind old old body body
-    go None e h = absurd h
-    go (Some k) e h = record { scalar_kind = k; plain = e; packable = h; elements = elements_none k (map value_of old) body }
 
 has_wire : (kind : TableKind) (k : ScalarKind) (w : WireType) → plain_kind kind ≡ Some k → HasWire kind w → kind_wire k ≡ w
 has_wire kind k w e h = subst (λ o. IsSomeAnd o (λ k. kind_wire k ≡ w)) e h
@@ -67,19 +60,7 @@ single_added kind w v old new bytes rest r e = record {
   read = single_read r.scalar_kind w r.scalar bytes rest r.read;
 }
 
-pub length_refused : (kind : TableKind) (w : WireType) (e : DecodeError) (bytes : List ℕ) → w ≡ wires.LengthDelimited → IsSomeAnd (plain_kind kind) (λ k. is_packable k ≡ true) → PlainFault e wires.LengthDelimited bytes → RefusesElements kind w e bytes
-length_refused kind w e bytes wire h fault = go (plain_kind kind) refl h
-  where
-    go : (o : Option ScalarKind) → plain_kind kind ≡ o → IsSomeAnd o (λ k. is_packable k ≡ true) → RefusesElements kind w e bytes
-    go None is h = absurd h
-    go (Some k) is h = record { scalar_kind = k; plain = is; fault = λ f packed form kind_is. delimited_refused f w e bytes wire fault }
-
 pub body_refused : (kind : TableKind) (w : WireType) (e : DecodeError) (body bytes rest : List ℕ) → w ≡ wires.LengthDelimited → IsSomeAnd (plain_kind kind) (λ k. is_packable k ≡ true) → DelimitedFront body bytes rest → RefusesPacked kind e body → RefusesElements kind w e bytes
 body_refused kind w e body bytes rest wire h front r =
     let packable : is_packable r.scalar_kind ≡ true = subst (λ o. IsSomeAnd o (λ k. is_packable k ≡ true)) r.plain h in
     record { scalar_kind = r.scalar_kind; plain = r.plain; fault = λ f packed form is. packed_refused r.scalar_kind f packed w e body bytes rest form is packable wire front r.fault }
-
-pub one_refused : (kind : TableKind) (w : WireType) (e : DecodeError) (bytes : List ℕ) → IsSomeAnd (plain_kind kind) (λ k. (is_packable k && same_wire w wires.LengthDelimited) ≡ false) → RefusesScalar kind w e bytes → RefusesElements kind w e bytes
-one_refused kind w e bytes h r =
-    let one : (is_packable r.scalar_kind && same_wire w wires.LengthDelimited) ≡ false = subst (λ o. IsSomeAnd o (λ k. (is_packable k && same_wire w wires.LengthDelimited) ≡ false)) r.plain h in
-    record { scalar_kind = r.scalar_kind; plain = r.plain; fault = λ f packed form is. single_refused r.scalar_kind f packed w e bytes form is one r.fault }

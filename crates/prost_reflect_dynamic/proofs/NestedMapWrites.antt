@@ -79,13 +79,6 @@ pub nested_rows : (d : PooledType) (n : ℕ) (row key value : FieldRow) → Some
 nested_rows d n row key value found parts message = record { row = row; found = found; parts = sym parts; message = message }
 
 module _ (d : PooledType) (n : ℕ) (key value : FieldRow) (v : Value) (m : NestedMapOfRows d n key value) (writable : ValueWritable (known_of d) n (value_of v)) where
-  -- the value of a map is one
-  pub nested_map_value : IsMap (value_of v)
-  nested_map_value =
-      let shown = shown_map (pool_rows d.pool) m.row key value m.parts in
-      is_map_value (schema_field (pool_rows d.pool) m.row) (own_type (pool_rows d.pool).enums key) (value_of v) shown.form
-      (passing (field_of (known_of d) n) (schema_field (pool_rows d.pool) m.row) (λ f. value_valid f (value_of v)) (sym m.found) writable.valid)
-
   pub nested_rows_written : (pairs : BTreeMap MapKey Value) → v ≡ values.Map pairs → NestedPairsWritten (known_of d) n (pool_rows d.pool).enums key pairs.entries
   nested_rows_written pairs is =
       let seen : value_of v ≡ MapValue (pairs_shown pairs.entries) = ap value_of is ∙ value_of_map pairs in

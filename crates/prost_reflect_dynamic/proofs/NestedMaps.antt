@@ -32,10 +32,6 @@ module _ (levels : ℕ) (some : 1 ≤ levels) (key : TableKind) (k : Value) (old
   refuses : (e : DecodeError) → StandsInNestedEntry (schema_of old) (suc (levels - 1)) (type_of old) done.key_scalar e bytes → RefusesNestedEntry (schema_of old) levels (type_of old) key e bytes
   refuses e fault = record { key_scalar = done.key_scalar; key_plain = done.key_plain; fault = subst (λ l. StandsInNestedEntry (schema_of old) l (type_of old) done.key_scalar e bytes) (one_less levels some) fault }
 
-  -- the value so far holds
-  pub nested_sound : WellStored mid
-  nested_sound = let h = done.read.holds in h.sound
-
   pub nested_no_key_there : (e : DecodeError) → here ≢ [] → KeyFault e here → RefusesNestedEntry (schema_of old) levels (type_of old) key e bytes
   nested_no_key_there e rest fault = refuses e (nested_no_key (schema_of old) (levels - 1) (type_of old) done.key_scalar done.key_read mid bytes here done.read e rest fault)
 

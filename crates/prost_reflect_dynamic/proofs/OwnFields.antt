@@ -143,9 +143,6 @@ takes_found t field n v own h = ap (λ o. passes o (λ f. value_valid f (value_o
 same_fields : (d : MessageDescriptor) (t : PooledType) → NamesSame d t → named.descriptor_fields d ≡ fields_of t
 same_fields d t names = λ i. fields_at (rows_of (names.0 i).tables) (names.1 i)
 
-pub field_described : (t : PooledType) (d : MessageDescriptor) (field : FieldDescriptor) (n : ℕ) → NamesSame d t → SameMessage d field.message → Some field.index ≡ declared_place (named.descriptor_fields d) n → DescribesField t n field
-field_described t d field n names same at = ((same.0 ∙ names.0, same.1 ∙ names.1), ap (λ fields. declared_place fields n) (sym (same_fields d t names)) ∙ sym at)
-
 pub field_there : (t : PooledType) (d : MessageDescriptor) (n : ℕ) → NamesSame d t → is_field_number t n ≡ true → None ≡ declared_place (named.descriptor_fields d) n → ⊥
 field_there t d n names is none =
     true≢false (sym is ∙ ap (λ fields. is_declared (row_of fields n)) (sym (same_fields d t names)) ∙ sym (found_declared (named.descriptor_fields d) n) ∙ ap is_some (sym none))

@@ -130,18 +130,6 @@ list_kind rows row many form = go row.cardinality many form
     go Required m f = absurd (true≢false (sym m))
     go RepeatedLabel m f = listed (map_entry rows.messages row RepeatedLabel) f
 
-pub listed_row : (rows : TableRows) (row : FieldRow) → is_repeated row.cardinality ≡ true → is_list (schema_field rows row).form ≡ true → (schema_field rows row).form ≡ Repeated row.is_packed
-listed_row rows row h m = go row.cardinality h m
-  where
-    listed : (entry : Option MessageRow) → is_list (form_of rows.enums row RepeatedLabel entry) ≡ true → form_of rows.enums row RepeatedLabel entry ≡ Repeated row.is_packed
-    listed None m = refl
-    listed (Some e) m = absurd (true≢false (sym m))
-
-    go : (c : Cardinality) → is_repeated c ≡ true → is_list (form_of rows.enums row c (map_entry rows.messages row c)) ≡ true → form_of rows.enums row c (map_entry rows.messages row c) ≡ Repeated row.is_packed
-    go Optional h m = absurd (true≢false (sym h))
-    go Required h m = absurd (true≢false (sym h))
-    go RepeatedLabel h m = listed (map_entry rows.messages row RepeatedLabel) m
-
 -- PLAIN KINDS
 
 -- kinds of the same payloads; the first takes whatever the second does

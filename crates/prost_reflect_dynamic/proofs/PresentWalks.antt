@@ -11,7 +11,7 @@ use Rattle.prost_reflect_dynamic.proofs.Depths.{Small, flat, had_small}
 use Rattle.prost_reflect_dynamic.proofs.Had.{had_found}
 use Rattle.prost_reflect_dynamic.proofs.PresentNumbers.{by_keys, present_of_item, present_items as numbers_of_items}
 use Rattle.prost_reflect_dynamic.proofs.ValueLists.{flat_append, flat_flat, flat_same, row_lists, present_lists}
-use Rattle.prost_reflect_dynamic.proofs.Walks.{gives}
+use Rattle.prost_reflect_walks.proofs.Walks.{gives}
 
 -- ONE NUMBER
 

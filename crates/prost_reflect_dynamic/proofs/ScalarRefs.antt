@@ -64,9 +64,6 @@ scalar_tested v s t b held is =
     held_same : (s t : Scalar) → ScalarValue s ≡ ScalarValue t → s ≡ t
     held_same s t h = cc
 
-pub no_scalar_tested : (v : Value) (t : Scalar) → None ≡ scalar_in v → IsTrue false ↔ (v ≡ ScalarValue t)
-no_scalar_tested v t none = (λ yes. absurd (true≢false (sym yes)), λ same. absurd (scalar_there v none (subst IsScalar (sym same) tt)))
-
 -- a key is a scalar where it is equal to it
 pub key_tested : (k s t : Scalar) (d : Value) (b : Bool) → s ≡ k → ScalarValue t ≡ d → b ≡ scalar_eq s t → IsTrue b ↔ (ScalarValue k ≡ d)
 key_tested k s t d b same default is =

@@ -51,9 +51,6 @@ value_of_message m k s = ap (λ (slot : Slot). slot.value) (sym (slot_of_message
 -- SETTING
 
 module _ (d : PooledType) (es : List (ℕ × FieldSlot Value)) (n : ℕ) (v : Value) (s : IsAscending es) where
-  abbrev after_set : List (ℕ × FieldSlot Value)
-  after_set = set_value_at (known_of d) es n v
-
   ascending_set : IsAscending (set_value_at (known_of d) es n v)
   ascending_set = ascending_without_values (are_siblings (known_of d) n) (put_value es n v) (ascending_put es n v s)
 

@@ -55,27 +55,6 @@ same_pairs enums key value (Pair k v ps) = ap₂ (λ a b. a && b) (ap₂ (λ a b
 abbrev shaped : TableRows → FieldRow → Cardinality → Option MessageRow → content.Value → Bool
 shaped rows row c o v = value_valid (record (schema_field rows row) { form = form_of rows.enums row c o; value_type = value_type_of rows.enums row o }) v
 
-none_single : (rows : TableRows) (row : FieldRow) (c : Cardinality) → is_repeated c ≡ false → map_entry rows.messages row c ≡ None
-none_single rows row Optional e = refl
-none_single rows row Required e = refl
-none_single rows row RepeatedLabel e = absurd (true≢false e)
-
--- one value
-pub single_valid : (rows : TableRows) (row : FieldRow) (v : content.Value) → is_repeated row.cardinality ≡ false → element_valid (schema_kind rows.enums row.kind false) v ≡ value_valid (schema_field rows row) v
-single_valid rows row v single =
-    same_element rows.enums row.kind row.is_group v ∙ go row.cardinality single v ∙ ap (λ o. shaped rows row row.cardinality o v) (sym (none_single rows row row.cardinality single))
-  where
-    go : (c : Cardinality) → is_repeated c ≡ false → (v : content.Value) → element_valid (own_type rows.enums row).kind v ≡ shaped rows row c None v
-    go Optional e (ScalarValue s) = refl
-    go Optional e (MessageValue m) = refl
-    go Optional e (ListValue vs) = refl
-    go Optional e (MapValue ps) = refl
-    go Required e (ScalarValue s) = refl
-    go Required e (MessageValue m) = refl
-    go Required e (ListValue vs) = refl
-    go Required e (MapValue ps) = refl
-    go RepeatedLabel e v = absurd (true≢false e)
-
 -- a list
 pub list_valid : (rows : TableRows) (row : FieldRow) (v : content.Value) → is_linked rows ≡ true → is_repeated row.cardinality ≡ true → None ≡ map_parts rows row → list_fits (schema_kind rows.enums row.kind false) v ≡ value_valid (schema_field rows row) v
 list_valid rows row v linked many none =

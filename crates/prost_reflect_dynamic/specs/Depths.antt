@@ -7,7 +7,7 @@ use Rattle.std.specs.declared.borrow.Cow.{Cow}
 use Rattle.prost_reflect_wire.specs.Schema.{passes}
 use Rattle.prost_reflect_dynamic.specs.Access.{has_at, left_if}
 use Rattle.prost_reflect_dynamic.specs.View.{content_of}
-use Rattle.prost_reflect_dynamic.specs.Walks.{EachGiven}
+use Rattle.prost_reflect_walks.specs.Walks.{EachGiven}
 use Rattle.prost_reflect_dynamic.specs.declared.message.DynamicMessage.{DynamicMessage, size-DynamicMessage}
 use Rattle.prost_reflect_dynamic.specs.declared.value.Value.{Value, size-Value}
 

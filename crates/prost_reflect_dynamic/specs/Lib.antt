@@ -42,12 +42,9 @@ pub mod NamedRecords
 pub mod Options
 pub mod NamedServices
 pub mod NamedValues
-pub mod Places
-pub mod Reserved
 pub mod ValueLists
 pub mod PresentWalks
 pub mod Access
-pub mod Walks
 pub mod Depths
 pub mod ExtensionAccess
 pub mod Setting

@@ -6,7 +6,7 @@ use Rattle.prost_reflect_pool.specs.RecordPaths.{AnyRecord, MessageRecord, EnumR
 use Rattle.prost_reflect_pool.specs.SharedPools.{files_of}
 use Rattle.prost_reflect_dynamic.specs.Named.{message_row_named}
 use Rattle.prost_reflect_dynamic.specs.NamedEnums.{enum_row_at}
-use Rattle.prost_reflect_dynamic.specs.Reserved.{reserved, extensible, enum_reserved}
+use Rattle.prost_reflect_walks.specs.Reserved.{reserved, extensible, enum_reserved}
 use Rattle.prost_reflect_dynamic.specs.declared.descriptor.message.MessageDescriptor.{MessageDescriptor}
 use Rattle.prost_reflect_dynamic.specs.declared.descriptor.enums.EnumDescriptor.{EnumDescriptor}
 

@@ -12,7 +12,7 @@ use Rattle.prost_reflect_fields.specs.FieldSlots.{unknown_at, unknown_in}
 use Rattle.prost_reflect_fields.specs.declared.slot.FieldSlot.{FieldSlot}
 use Rattle.prost_reflect_dynamic.specs.Access.{IsOwnField, number_of, had_at}
 use Rattle.prost_reflect_dynamic.specs.ExtensionAccess.{IsOwnExtension, extension_number}
-use Rattle.prost_reflect_dynamic.specs.Places.{GivesNext}
+use Rattle.prost_reflect_walks.specs.Places.{GivesNext}
 use Rattle.prost_reflect_dynamic.specs.Present.{present_in}
 use Rattle.prost_reflect_dynamic.specs.ValueLists.{had_in}
 use Rattle.prost_reflect_dynamic.specs.View.{content_of, stored_in}

@@ -3,7 +3,7 @@ use Rattle.std.specs.Prelude.{◌≡◌, ℕ, Bool, true, false, if◌then◌els
 use Rattle.std.specs.Prelude.{Result}
 use Rattle.std.specs.Borrow.{Bor}
 use Rattle.std.specs.declared.alloc.AllocError.{AllocError}
-use Rattle.prost_reflect_dynamic.specs.Places.{GivesNext}
+use Rattle.prost_reflect_walks.specs.Places.{GivesNext}
 use Rattle.prost_reflect_wire.specs.Schema.{Field}
 use Rattle.prost_reflect_wire.specs.Typing.{kept}
 use Rattle.prost_reflect_pool.specs.declared.pooled_type.PooledType.{PooledType}

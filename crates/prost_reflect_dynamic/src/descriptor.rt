@@ -18,9 +18,7 @@ mod method;
 mod oneof;
 mod options;
 pub(crate) mod path;
-mod places;
 mod pool;
-mod ranges;
 mod reduction;
 mod service;
 
@@ -31,16 +29,16 @@ pub use extension::ExtensionDescriptor;
 pub use field::FieldDescriptor;
 pub use file::{FileDescriptor, Syntax};
 pub use iter::{
-    Descriptors, EnumDescriptors, EnumValueDescriptors, ExtensionDescriptors, FieldDescriptors,
-    FileDescriptors, MessageDescriptors, MethodDescriptors, OneofDescriptors, Placed,
-    ServiceDescriptors,
+    EnumDescriptors, EnumValueDescriptors, ExtensionDescriptors, FieldDescriptors, FileDescriptors,
+    MessageDescriptors, MethodDescriptors, OneofDescriptors, ServiceDescriptors,
 };
 pub use kind::Kind;
 pub use message::MessageDescriptor;
 pub use method::MethodDescriptor;
 pub use oneof::OneofDescriptor;
 pub use options::OptionsError;
-pub use places::Places;
 pub use pool::DescriptorPool;
-pub use ranges::{EnumReservedRanges, ExtensionRanges, ReservedNames, ReservedRanges};
+pub use prost_reflect_walks::{
+    Descriptors, EnumReservedRanges, ExtensionRanges, Placed, Places, ReservedNames, ReservedRanges,
+};
 pub use service::ServiceDescriptor;

@@ -3,7 +3,7 @@
 ghost use Rattle.std.specs.Prelude.{◌≡◌, ◌↔◌, true, false, [], IsTrue, Some, OnOk, OnErr, IfOk, IfSome, option_map, unwrap_or};
 ghost use Rattle.std.specs.Borrow.{LendsIf, LendsIfOk, sem};
 ghost use Rattle.std.specs.Option.{option_copied, option_copied_mut};
-ghost use Rattle.prost_reflect_wire.specs.Unknown.{unknown_record, records_of};
+ghost use Rattle.prost_reflect_wire.specs.Unknown.{unknown_record};
 ghost use Rattle.prost_reflect_wire.specs.Content.{empty, entries_of, value_at};
 ghost use Rattle.prost_reflect_wire.specs.Edit.{cleared};
 ghost use Rattle.prost_reflect_wire.specs.Typing.{WellStored};
@@ -18,7 +18,7 @@ ghost use Rattle.prost_reflect_maps.specs.ItemsLeft.{items_left};
 ghost use Rattle.prost_reflect_fields.specs.Known.{known_of, is_known, keeps_unknown, oneof_of};
 ghost use Rattle.prost_reflect_maps.specs.NumberSets.{has};
 ghost use Rattle.prost_reflect_fields.specs.WholeOneofs.{HasWholeOneofs};
-ghost use Rattle.prost_reflect_fields.specs.FieldSlots.{stored_at, records_at};
+ghost use Rattle.prost_reflect_fields.specs.FieldSlots.{stored_at};
 ghost use Rattle.prost_reflect_fields.specs.Sound.{IsSound};
 ghost use Rattle.prost_reflect_dynamic.specs.declared.value.Value.{Value};
 ghost use Rattle.prost_reflect_dynamic.specs.View.{content_of, value_of, message_type_of, stored_in, overwritten_at, written_at};
@@ -58,7 +58,7 @@ use prost_reflect_fields::field_set::FieldSet;
 use prost_reflect_fields::slot::FieldSlot;
 use prost_reflect_maps::sorted_map::Items;
 use prost_reflect_pool::{LinkedPool, PooledType};
-use prost_reflect_wire::{UnknownField, UnknownFieldSet};
+use prost_reflect_wire::UnknownField;
 pub use setting::SetFieldError;
 use std::alloc::{AllocError, Global};
 use std::collections::BTreeSet;
@@ -155,13 +155,6 @@ impl DynamicMessage {
         ensures ascending { IsAscending (stored_in self.now) }
     {
         self.fields.get(number)
-    }
-
-    /// The unknown fields at the number.
-    pub(crate) fn stored_unknown(&self, number: u32) -> Option<&UnknownFieldSet>
-        ensures { option_map records_of (option_copied result) ≡ records_at (stored_in self.now) number }
-    {
-        self.fields.unknown(number)
     }
 
     /// Stores the value at the number of a field or an extension, and removes those of the other members of its oneof. If

@@ -5,7 +5,6 @@ ghost use Rattle.prost_reflect_pool.specs.SharedPools.{pool_rows};
 
 use crate::descriptor::message::message_at;
 use crate::descriptor::options::{OptionsError, options_by};
-use crate::descriptor::places::Places;
 use crate::descriptor::{
     DescriptorPool, Descriptors, EnumReservedRanges, EnumValueDescriptor, FileDescriptor,
     MessageDescriptor, Placed, ReservedNames,
@@ -13,6 +12,7 @@ use crate::descriptor::{
 use crate::message::DynamicMessage;
 use prost_reflect_tables::{EnumLists, EnumTable, text_or_empty};
 use prost_reflect_types::{EnumDescriptorProto, FileDescriptorProto};
+use prost_reflect_walks::Places;
 use std::alloc::AllocError;
 
 /// An enum of a pool.
@@ -58,9 +58,9 @@ impl EnumDescriptor {
     ghost use Rattle.prost_reflect_pool.specs.Lookups.{named_value, numbered_value};
     ghost use Rattle.prost_reflect_dynamic.specs.NamedLists.{values_of};
     ghost use Rattle.prost_reflect_dynamic.specs.NamedRecords.{enum_record_named, enum_reserved_in, names_in};
-    ghost use Rattle.prost_reflect_dynamic.specs.Reserved.{enum_reserved_left, names_left};
+    ghost use Rattle.prost_reflect_walks.specs.Reserved.{enum_reserved_left, names_left};
     ghost use Rattle.prost_reflect_pool.specs.RecordPaths.{EnumRecord};
-    ghost use Rattle.prost_reflect_dynamic.specs.Places.{places_left};
+    ghost use Rattle.prost_reflect_walks.specs.Places.{places_left};
     ghost use Rattle.prost_reflect_tables.specs.Rows.{enum_row};
     ghost use Rattle.prost_reflect_tables.specs.WrittenDefaults.{number_named};
     ghost use Rattle.prost_reflect_pool.specs.Enums.{first_of};

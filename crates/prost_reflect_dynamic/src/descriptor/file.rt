@@ -4,7 +4,6 @@ ghost use Rattle.std.specs.Prelude.{◌≡◌, ◌<◌, length};
 ghost use Rattle.prost_reflect_pool.specs.SharedPools.{files_of};
 
 use crate::descriptor::options::{OptionsError, options_by};
-use crate::descriptor::places::Places;
 use crate::descriptor::{
     DescriptorPool, Descriptors, EnumDescriptor, ExtensionDescriptor, MessageDescriptor, Placed,
     ServiceDescriptor,
@@ -12,6 +11,7 @@ use crate::descriptor::{
 use crate::message::DynamicMessage;
 use prost_reflect_tables::{FileTable, text_or_empty};
 use prost_reflect_types::{FileDescriptorProto, Proto};
+use prost_reflect_walks::Places;
 use prost_reflect_wire::EncodeError;
 use std::alloc::{AllocError, Global};
 
@@ -66,7 +66,7 @@ impl FileDescriptor {
     ghost use Rattle.prost_reflect_pool.specs.RecordPaths.{FileRecord};
     ghost use Rattle.prost_reflect_pool.specs.SharedPools.{pool_rows, pool_catalog};
     ghost use Rattle.prost_reflect_dynamic.specs.NamedFiles.{file_record_at, file_row_at, syntax_of};
-    ghost use Rattle.prost_reflect_dynamic.specs.Places.{places_left};
+    ghost use Rattle.prost_reflect_walks.specs.Places.{places_left};
     ghost use Rattle.prost_reflect_dynamic.specs.Options.{OptionsOf};
 
     /// The file at a place of a pool. The place has to be below the number of files.

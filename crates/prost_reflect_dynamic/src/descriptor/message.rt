@@ -6,7 +6,6 @@ ghost use Rattle.prost_reflect_pool.specs.SharedPools.{pool_rows};
 use crate::descriptor::extension::extension_at;
 use crate::descriptor::options::{OptionsError, options_by};
 use crate::descriptor::path::declared_place;
-use crate::descriptor::places::Places;
 use crate::descriptor::{
     DescriptorPool, Descriptors, EnumDescriptor, ExtensionDescriptor, ExtensionRanges,
     FieldDescriptor, FileDescriptor, OneofDescriptor, Placed, ReservedNames, ReservedRanges,
@@ -15,6 +14,7 @@ use crate::message::DynamicMessage;
 use prost_reflect_pool::PooledType;
 use prost_reflect_tables::{FieldTable, MessageLists, MessageTable, text_or_empty};
 use prost_reflect_types::{DescriptorProto, FileDescriptorProto};
+use prost_reflect_walks::Places;
 use std::alloc::AllocError;
 
 /// A message type of a pool.
@@ -57,9 +57,9 @@ impl MessageDescriptor {
     ghost use Rattle.prost_reflect_tables.specs.Names.{text_or_empty};
     ghost use Rattle.prost_reflect_tables.specs.LinkedCatalog.{own_fields};
     ghost use Rattle.prost_reflect_pool.specs.SharedPools.{files_of, pool_catalog};
-    ghost use Rattle.prost_reflect_dynamic.specs.Places.{places_from, places_left};
+    ghost use Rattle.prost_reflect_walks.specs.Places.{places_from, places_left};
     ghost use Rattle.prost_reflect_dynamic.specs.NamedRecords.{file_of_message, message_record_named, reserved_in, extensible_in, names_in};
-    ghost use Rattle.prost_reflect_dynamic.specs.Reserved.{reserved_left, extensible_left, names_left};
+    ghost use Rattle.prost_reflect_walks.specs.Reserved.{reserved_left, extensible_left, names_left};
     ghost use Rattle.prost_reflect_pool.specs.RecordPaths.{MessageRecord};
     ghost use Rattle.prost_reflect_pool.specs.Lookups.{named_field, json_named_field, extension_where};
     ghost use Rattle.prost_reflect_dynamic.specs.Named.{lists_named};
@@ -70,7 +70,7 @@ impl MessageDescriptor {
     ghost use Rattle.prost_reflect_dynamic.specs.Options.{OptionsOf};
     ghost use Rattle.prost_reflect_pool.specs.declared.pooled_type.PooledType.{PooledType};
     ghost use Rattle.prost_reflect_dynamic.specs.Access.{IsOwnField, number_named, number_of};
-    ghost use Rattle.prost_reflect_dynamic.specs.Walks.{GivesEach};
+    ghost use Rattle.prost_reflect_walks.specs.Walks.{GivesEach};
 
     /// The message type at a place of a pool.
     pub(crate) fn new(pool: DescriptorPool, index: usize) -> MessageDescriptor

@@ -4,13 +4,13 @@ ghost use Rattle.std.specs.Prelude.{◌≡◌, ◌<◌, length};
 ghost use Rattle.prost_reflect_dynamic.specs.NamedLists.{oneofs_of};
 
 use crate::descriptor::options::{OptionsError, options_by};
-use crate::descriptor::places::Places;
 use crate::descriptor::{
     DescriptorPool, Descriptors, FieldDescriptor, FileDescriptor, MessageDescriptor, Placed,
 };
 use crate::message::DynamicMessage;
 use prost_reflect_tables::OneofTable;
 use prost_reflect_types::OneofDescriptorProto;
+use prost_reflect_walks::Places;
 use std::alloc::AllocError;
 
 /// A oneof of a message type (the proto3 guide, "Oneof").
@@ -59,10 +59,10 @@ impl OneofDescriptor {
     ghost use Rattle.prost_reflect_dynamic.specs.Named.{message_row_named};
     ghost use Rattle.prost_reflect_dynamic.specs.NamedFields.{descriptor_fields, is_declared_at};
     ghost use Rattle.prost_reflect_dynamic.specs.NamedOneofs.{is_synthetic_in, oneof_row_named};
-    ghost use Rattle.prost_reflect_dynamic.specs.Places.{places_left};
+    ghost use Rattle.prost_reflect_walks.specs.Places.{places_left};
     ghost use Rattle.prost_reflect_dynamic.specs.Options.{OptionsOf};
     ghost use Rattle.prost_reflect_dynamic.specs.Named.{SameMessage};
-    ghost use Rattle.prost_reflect_dynamic.specs.Walks.{GivesEach};
+    ghost use Rattle.prost_reflect_walks.specs.Walks.{GivesEach};
 
     /// The pool that the oneof is of.
     pub fn parent_pool(&self) -> &DescriptorPool

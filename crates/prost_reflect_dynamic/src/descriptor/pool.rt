@@ -1,11 +1,11 @@
 //! Pools.
 
-use crate::descriptor::places::Places;
 use crate::descriptor::{
     Descriptors, EnumDescriptor, ExtensionDescriptor, FileDescriptor, MessageDescriptor, Placed,
     ServiceDescriptor,
 };
 use prost_reflect_pool::LinkedPool;
+use prost_reflect_walks::Places;
 use std::alloc::AllocError;
 use std::rc::Rc;
 
@@ -33,7 +33,7 @@ impl DescriptorPool {
     ghost use Rattle.prost_reflect_tables.specs.Places.{message_place};
     ghost use Rattle.prost_reflect_pool.specs.SharedPools.{files_of, pool_rows, pool_catalog};
     ghost use Rattle.prost_reflect_pool.specs.Lookups.{file_place, enum_place, extension_place, service_place};
-    ghost use Rattle.prost_reflect_dynamic.specs.Places.{places_from, places_left};
+    ghost use Rattle.prost_reflect_walks.specs.Places.{places_from, places_left};
 
     /// The files, in the order in which they were added.
     pub fn files(&self) -> Descriptors<'_, DescriptorPool, FileDescriptor>

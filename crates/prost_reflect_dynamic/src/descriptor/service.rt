@@ -4,11 +4,11 @@ ghost use Rattle.std.specs.Prelude.{◌≡◌, ◌<◌, length};
 ghost use Rattle.prost_reflect_pool.specs.SharedPools.{pool_catalog};
 
 use crate::descriptor::options::{OptionsError, options_by};
-use crate::descriptor::places::Places;
 use crate::descriptor::{DescriptorPool, Descriptors, FileDescriptor, MethodDescriptor, Placed};
 use crate::message::DynamicMessage;
 use prost_reflect_tables::{ServiceTable, text_or_empty};
 use prost_reflect_types::{FileDescriptorProto, ServiceDescriptorProto};
+use prost_reflect_walks::Places;
 use std::alloc::AllocError;
 
 /// A service of a pool (the language guide, "Defining Services").
@@ -51,7 +51,7 @@ impl ServiceDescriptor {
     ghost use Rattle.prost_reflect_pool.specs.RecordPaths.{ServiceRecord, record_of};
     ghost use Rattle.prost_reflect_pool.specs.SharedPools.{files_of, pool_rows};
     ghost use Rattle.prost_reflect_dynamic.specs.NamedServices.{service_row_named, methods_of};
-    ghost use Rattle.prost_reflect_dynamic.specs.Places.{places_from, places_left};
+    ghost use Rattle.prost_reflect_walks.specs.Places.{places_from, places_left};
     ghost use Rattle.prost_reflect_dynamic.specs.Options.{OptionsOf};
 
     /// The service at a place of a pool. The place has to be below the number of services.

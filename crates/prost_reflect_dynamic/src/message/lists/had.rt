@@ -11,7 +11,7 @@ ghost use Rattle.prost_reflect_dynamic.specs.Depths.{GivesInside};
 ghost use Rattle.prost_reflect_dynamic.specs.Edits.{IsPart};
 ghost use Rattle.prost_reflect_dynamic.specs.ExtensionAccess.{IsOwnExtension, extension_number};
 ghost use Rattle.prost_reflect_dynamic.specs.View.{message_type_of, stored_in};
-ghost use Rattle.prost_reflect_dynamic.specs.Walks.{EachGiven};
+ghost use Rattle.prost_reflect_walks.specs.Walks.{EachGiven};
 
 use crate::descriptor::{ExtensionDescriptor, FieldDescriptor};
 use crate::message::DynamicMessage;

@@ -3,10 +3,10 @@
 ghost use Rattle.std.specs.Prelude.{◌≡◌, []};
 ghost use Rattle.prost_reflect_fields.specs.FieldSlots.{unknown_in};
 ghost use Rattle.prost_reflect_fields.specs.Known.{known_of};
-ghost use Rattle.prost_reflect_dynamic.specs.Places.{GivesNext};
+ghost use Rattle.prost_reflect_walks.specs.Places.{GivesNext};
 ghost use Rattle.prost_reflect_dynamic.specs.PresentWalks.{present_items, present_left, present_steps, value_items, unknown_items, waiting_items, IsItem, IsOwn, NestsInside};
 ghost use Rattle.prost_reflect_dynamic.specs.View.{message_type_of};
-ghost use Rattle.prost_reflect_dynamic.specs.Walks.{EachGiven};
+ghost use Rattle.prost_reflect_walks.specs.Walks.{EachGiven};
 
 use crate::descriptor::{ExtensionDescriptor, FieldDescriptor};
 use crate::message::DynamicMessage;

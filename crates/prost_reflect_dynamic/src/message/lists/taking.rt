@@ -10,7 +10,7 @@ ghost use Rattle.prost_reflect_dynamic.specs.Edits.{IsPart, Removes};
 ghost use Rattle.prost_reflect_dynamic.specs.ExtensionAccess.{IsOwnExtension, extension_number};
 ghost use Rattle.prost_reflect_dynamic.specs.ValueLists.{had_pairs, said};
 ghost use Rattle.prost_reflect_dynamic.specs.View.{message_type_of, stored_in};
-ghost use Rattle.prost_reflect_dynamic.specs.Walks.{EachTaken};
+ghost use Rattle.prost_reflect_walks.specs.Walks.{EachTaken};
 ghost use Rattle.prost_reflect_dynamic.specs.declared.message.DynamicMessage.{size-DynamicMessage};
 ghost use Rattle.prost_reflect_dynamic.specs.declared.value.Value.{size-Value};
 

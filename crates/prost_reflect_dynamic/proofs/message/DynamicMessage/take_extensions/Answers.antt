@@ -1,7 +1,7 @@
 use Rattle.prost_reflect_dynamic.proofs.Common.{map, true, sym, ap, subst, ◌∙◌, All, IsOwnExtension, extension_number, had_pairs, message_type_of, IsPart}
 use Rattle.prost_reflect_dynamic.proofs.Depths.{Small, pairs_small}
 use Rattle.prost_reflect_dynamic.proofs.Parts.{all_of, pairs_part}
-use Rattle.prost_reflect_dynamic.proofs.Walks.{each_taken}
+use Rattle.prost_reflect_walks.proofs.Walks.{each_taken}
 use Rattle.prost_reflect_dynamic.proofs.ValueLists.{numbers_zipped, all_zipped}
 use Rattle.prost_reflect_dynamic.proofs.message.DynamicMessage.take_extensions.Goals as goal
 

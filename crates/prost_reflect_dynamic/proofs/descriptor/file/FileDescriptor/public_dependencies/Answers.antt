@@ -1,5 +1,5 @@
 use Rattle.prost_reflect_dynamic.proofs.Common.{length, files_of}
-use Rattle.prost_reflect_dynamic.proofs.PlaceRanges.{all_below}
+use Rattle.prost_reflect_walks.proofs.PlaceRanges.{all_below}
 use Rattle.prost_reflect_dynamic.proofs.descriptor.file.FileDescriptor.public_dependencies.Goals as goal
 
 pub new-requires : goal.new-requires

@@ -1,5 +1,5 @@
 use Rattle.prost_reflect_dynamic.proofs.Common.{length, pool_catalog}
-use Rattle.prost_reflect_dynamic.proofs.PlaceRanges.{listed_below}
+use Rattle.prost_reflect_walks.proofs.PlaceRanges.{listed_below}
 use Rattle.prost_reflect_dynamic.proofs.descriptor.file.FileDescriptor.services.Goals as goal
 
 pub new-requires : goal.new-requires

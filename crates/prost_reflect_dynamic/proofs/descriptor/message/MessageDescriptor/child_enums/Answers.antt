@@ -1,5 +1,5 @@
 use Rattle.prost_reflect_dynamic.proofs.Common.{length, pool_rows}
-use Rattle.prost_reflect_dynamic.proofs.PlaceRanges.{listed_below}
+use Rattle.prost_reflect_walks.proofs.PlaceRanges.{listed_below}
 use Rattle.prost_reflect_dynamic.proofs.descriptor.message.MessageDescriptor.child_enums.Goals as goal
 
 pub new-requires : goal.new-requires

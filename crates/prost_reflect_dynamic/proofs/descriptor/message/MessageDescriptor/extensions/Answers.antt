@@ -1,7 +1,7 @@
 use Rattle.prost_reflect_dynamic.proofs.Common.{rules, length, pool_catalog, Extends}
 use Rattle.prost_reflect_dynamic.proofs.OwnExtensions.{ExtendsAt, each_extends, stands_extending}
-use Rattle.prost_reflect_dynamic.proofs.PlaceRanges.{listed_below}
-use Rattle.prost_reflect_dynamic.proofs.Walks.{each_given}
+use Rattle.prost_reflect_walks.proofs.PlaceRanges.{listed_below}
+use Rattle.prost_reflect_walks.proofs.Walks.{each_given}
 use Rattle.prost_reflect_dynamic.proofs.descriptor.message.MessageDescriptor.extensions.Goals as goal
 
 pub new-requires : goal.new-requires

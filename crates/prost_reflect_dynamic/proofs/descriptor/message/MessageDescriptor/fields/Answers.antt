@@ -1,7 +1,7 @@
 use Rattle.prost_reflect_dynamic.proofs.Common.{◌∙◌, descriptor_fields}
 use Rattle.prost_reflect_dynamic.specs.Named.{SameMessage}
 use Rattle.prost_reflect_dynamic.proofs.OwnRows.{own_declared}
-use Rattle.prost_reflect_dynamic.proofs.Walks.{each_stands}
+use Rattle.prost_reflect_walks.proofs.Walks.{each_stands}
 use Rattle.prost_reflect_dynamic.proofs.descriptor.message.MessageDescriptor.fields.Goals as goal
 
 pub new-requires : goal.new-requires

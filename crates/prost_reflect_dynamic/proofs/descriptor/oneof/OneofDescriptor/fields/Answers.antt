@@ -1,5 +1,5 @@
 use Rattle.prost_reflect_dynamic.specs.Named.{SameMessage}
-use Rattle.prost_reflect_dynamic.proofs.Walks.{each_stands}
+use Rattle.prost_reflect_walks.proofs.Walks.{each_stands}
 use Rattle.prost_reflect_dynamic.proofs.descriptor.oneof.OneofDescriptor.fields.Goals as goal
 
 pub returns-clause-own : goal.returns-clause-own

@@ -5,9 +5,9 @@ use Rattle.std.specs.Vec.Iter.{into_iter_steps}
 use Rattle.std.specs.declared.alloc.AllocError.{AllocError}
 use Rattle.std.specs.declared.alloc.Global.{Global}
 use Rattle.std.specs.declared.vec.IntoIter.{IntoIter}
-use Rattle.prost_reflect_dynamic.specs.Places.{places_left, GivesNext}
-use Rattle.prost_reflect_dynamic.specs.declared.descriptor.iter.Placed.{Ghosts}
-use Rattle.prost_reflect_dynamic.specs.declared.descriptor.iter.Descriptors.{Descriptors}
+use Rattle.prost_reflect_walks.specs.Places.{places_left, GivesNext}
+use Rattle.prost_reflect_walks.specs.declared.descriptors.Placed.{Ghosts}
+use Rattle.prost_reflect_walks.specs.declared.descriptors.Descriptors.{Descriptors}
 
 -- Whatever the list gives, as its items are taken one by one, has the property.
 abbrev pub EachTaken : {A : Type 0} → (A → Type 0) → IntoIter A Global → Type 0

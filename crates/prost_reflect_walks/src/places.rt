@@ -2,7 +2,7 @@
 
 ghost use Rattle.std.specs.Prelude.{◌≡◌, ◌-◌, IsTrue, length, nat_lt};
 ghost use Rattle.std.specs.List.{list_all};
-ghost use Rattle.prost_reflect_dynamic.specs.Places.{places_from, places_left, GivesPlace};
+ghost use Rattle.prost_reflect_walks.specs.Places.{places_from, places_left, GivesPlace};
 
 /// Places that are still to come.
 #[derive(Debug, Drop)]
@@ -15,7 +15,7 @@ pub enum Places<'a> {
 
 impl<'a> Places<'a> {
     /// As many places as there are definitions, from the first on.
-    pub(crate) fn up_to(count: usize) -> Places<'a>
+    pub fn up_to(count: usize) -> Places<'a>
         ensures places { places_left result ≡ places_from 0 count }
         ensures within { IsTrue (list_all (λ i. nat_lt i count) (places_left result)) }
     {
@@ -24,7 +24,7 @@ impl<'a> Places<'a> {
 
     /// The next place, if one is left.
     #[tactic(auto, using(crate::proofs::PlaceRanges::range_next))]
-    pub(crate) fn next_place(&mut self) -> Option<usize>
+    pub fn next_place(&mut self) -> Option<usize>
         ensures { GivesPlace self.old result self.new }
     {
         match self {
@@ -46,7 +46,7 @@ impl<'a> Places<'a> {
 
     /// How many places are left.
     #[tactic(auto, using(crate::proofs::PlaceRanges::range_count))]
-    pub(crate) fn count(&self) -> usize
+    pub fn count(&self) -> usize
         ensures { result ≡ length (places_left self.now) }
     {
         match self {

@@ -1,8 +1,8 @@
 -- Places that are still to come, and what an iterator over the definitions at places gives.
 use Rattle.std.specs.Prelude.{◌≡◌, ℕ, zero, suc, ◌+◌, ◌-◌, List, [], ◌∷◌, Option, Some, None, Result, IfOk}
 use Rattle.std.specs.declared.alloc.AllocError.{AllocError}
-use Rattle.prost_reflect_dynamic.specs.declared.descriptor.places.Places.{Places}
-use Rattle.prost_reflect_dynamic.specs.declared.descriptor.places.Places.TheVariants.{Listed, Range}
+use Rattle.prost_reflect_walks.specs.declared.places.Places.{Places}
+use Rattle.prost_reflect_walks.specs.declared.places.Places.TheVariants.{Listed, Range}
 
 -- So many places, from the first on.
 abbrev pub places_from : ℕ → ℕ → List ℕ

@@ -1,13 +1,13 @@
 -- What holds of each step of a walk holds of what it gives.
 use Rattle.std.specs.Prelude.{◌≡◌, ◌∷◌}
-use Rattle.prost_reflect_dynamic.proofs.Common.{ℕ, zero, suc, List, [], Option, Some, Bor, sym, subst, ap, ◌∙◌, Result, IfOk, IfSome, slice_get, AllByRecursion, All, recursion_from_All, AllocError, Global, Ok, Err, GivesNext, places_left, EachGiven, EachTaken, GivesEach, descriptor_steps}
+use Rattle.prost_reflect_walks.proofs.Common.{ℕ, zero, suc, List, [], Option, Some, Bor, sym, subst, ap, ◌∙◌, Result, IfOk, IfSome, slice_get, AllByRecursion, All, recursion_from_All, AllocError, Global, Ok, Err, GivesNext, places_left, EachGiven, EachTaken, GivesEach, descriptor_steps}
 use Rattle.std.specs.Iterator.{Yields}
 use Rattle.std.specs.Iterator.Runs.{EachRunFrom, AllItems}
 use Rattle.std.specs.Vec.Iter.{into_iter_items, into_iter_steps}
 use Rattle.std.specs.declared.vec.IntoIter.{IntoIter}
 use Rattle.std.proofs.iter.runs.Made.{took, each}
-use Rattle.prost_reflect_dynamic.specs.declared.descriptor.iter.Placed.{Ghosts}
-use Rattle.prost_reflect_dynamic.specs.declared.descriptor.iter.Descriptors.{Descriptors}
+use Rattle.prost_reflect_walks.specs.declared.descriptors.Placed.{Ghosts}
+use Rattle.prost_reflect_walks.specs.declared.descriptors.Descriptors.{Descriptors}
 
 everywhere : {X : Type 0} (P : X → Type 0) (xs : List X) → AllByRecursion P xs → (k : ℕ) → IfSome (slice_get xs k) P
 everywhere P [] h k = tt

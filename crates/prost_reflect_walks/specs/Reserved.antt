@@ -4,10 +4,10 @@ use Rattle.prost_reflect_types.specs.declared.ExtensionRange.{ExtensionRange}
 use Rattle.prost_reflect_types.specs.declared.ReservedRange.{ReservedRange}
 use Rattle.prost_reflect_types.specs.declared.EnumReservedRange.{EnumReservedRange}
 use Rattle.prost_reflect_tables.specs.Linking.{natural_or_zero}
-use Rattle.prost_reflect_dynamic.specs.declared.descriptor.ranges.ReservedRanges.{ReservedRanges}
-use Rattle.prost_reflect_dynamic.specs.declared.descriptor.ranges.ExtensionRanges.{ExtensionRanges}
-use Rattle.prost_reflect_dynamic.specs.declared.descriptor.ranges.EnumReservedRanges.{EnumReservedRanges}
-use Rattle.prost_reflect_dynamic.specs.declared.descriptor.ranges.ReservedNames.{ReservedNames}
+use Rattle.prost_reflect_walks.specs.declared.ranges.ReservedRanges.{ReservedRanges}
+use Rattle.prost_reflect_walks.specs.declared.ranges.ExtensionRanges.{ExtensionRanges}
+use Rattle.prost_reflect_walks.specs.declared.ranges.EnumReservedRanges.{EnumReservedRanges}
+use Rattle.prost_reflect_walks.specs.declared.ranges.ReservedNames.{ReservedNames}
 
 -- The first number, and the one behind the last; a bound that is not there is 0.
 abbrev pub reserved : ReservedRange → ℕ × ℕ

@@ -1,6 +1,6 @@
 -- The places of a range.
 use Rattle.std.specs.Prelude.{◌≡◌, ◌∷◌, ◌<◌, ◌≤◌, ◌+◌, ◌-◌}
-use Rattle.prost_reflect_dynamic.proofs.Common.{List, [], IsTrue, nat_lt, rules, ℕ, zero, suc, length, refl, ap, arith, All, list_all, places_from}
+use Rattle.prost_reflect_walks.proofs.Common.{List, [], IsTrue, nat_lt, rules, ℕ, zero, suc, length, refl, ap, arith, All, list_all, places_from}
 
 pub range_next : (s e : ℕ) → s < e → places_from s (e - s) ≡ s ∷ places_from (s + 1) (e - (s + 1))
 range_next s e less = let more : e - s ≡ suc (e - (s + 1)) = omega arith in ap (places_from s) more

@@ -8,14 +8,14 @@ use std::ops::{Range, RangeInclusive};
 /// The ranges of field numbers that a message type reserves, in the order of its record.
 #[derive(Debug, Drop)]
 pub struct ReservedRanges<'a> {
-    pub(crate) records: &'a [ReservedRange],
+    pub records: &'a [ReservedRange],
 }
 
 impl<'a> Iterator for ReservedRanges<'a> {
     type Item = Range<u32>;
 
     ghost use Rattle.std.specs.Iterator.{YieldsFirstBy, item_count};
-    ghost use Rattle.prost_reflect_dynamic.specs.Reserved.{reserved_left};
+    ghost use Rattle.prost_reflect_walks.specs.Reserved.{reserved_left};
 
     ghost next_gives = { YieldsFirstBy (λ r. (r.start, r.end)) reserved_left };
 
@@ -41,14 +41,14 @@ impl<'a> ExactSizeIterator for ReservedRanges<'a> {
 /// The ranges of field numbers that a message type keeps for extensions, in the order of its record.
 #[derive(Debug, Drop)]
 pub struct ExtensionRanges<'a> {
-    pub(crate) records: &'a [ExtensionRange],
+    pub records: &'a [ExtensionRange],
 }
 
 impl<'a> Iterator for ExtensionRanges<'a> {
     type Item = Range<u32>;
 
     ghost use Rattle.std.specs.Iterator.{YieldsFirstBy, item_count};
-    ghost use Rattle.prost_reflect_dynamic.specs.Reserved.{extensible_left};
+    ghost use Rattle.prost_reflect_walks.specs.Reserved.{extensible_left};
 
     ghost next_gives = { YieldsFirstBy (λ r. (r.start, r.end)) extensible_left };
 
@@ -74,14 +74,14 @@ impl<'a> ExactSizeIterator for ExtensionRanges<'a> {
 /// The ranges of numbers that an enum reserves, in the order of its record.
 #[derive(Debug, Drop)]
 pub struct EnumReservedRanges<'a> {
-    pub(crate) records: &'a [EnumReservedRange],
+    pub records: &'a [EnumReservedRange],
 }
 
 impl<'a> Iterator for EnumReservedRanges<'a> {
     type Item = RangeInclusive<i32>;
 
     ghost use Rattle.std.specs.Iterator.{YieldsFirstBy, item_count};
-    ghost use Rattle.prost_reflect_dynamic.specs.Reserved.{enum_reserved_left};
+    ghost use Rattle.prost_reflect_walks.specs.Reserved.{enum_reserved_left};
     ghost use Rattle.std.specs.Range.{range_inclusive_start, range_inclusive_end};
 
     ghost next_gives = { YieldsFirstBy (λ r. (range_inclusive_start r, range_inclusive_end r)) enum_reserved_left };
@@ -108,14 +108,14 @@ impl<'a> ExactSizeIterator for EnumReservedRanges<'a> {
 /// The names that a message type or an enum reserves, in the order of its record.
 #[derive(Debug, Drop)]
 pub struct ReservedNames<'a> {
-    pub(crate) names: &'a [String],
+    pub names: &'a [String],
 }
 
 impl<'a> Iterator for ReservedNames<'a> {
     type Item = &'a str;
 
     ghost use Rattle.std.specs.Iterator.{YieldsFirstBy, item_count};
-    ghost use Rattle.prost_reflect_dynamic.specs.Reserved.{names_left};
+    ghost use Rattle.prost_reflect_walks.specs.Reserved.{names_left};
 
     ghost next_gives = { YieldsFirstBy (λ name. name.now) names_left };
 

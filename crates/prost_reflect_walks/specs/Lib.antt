@@ -1,0 +1,3 @@
+pub mod Places
+pub mod Walks
+pub mod Reserved
