@@ -17,9 +17,6 @@ pub record Parted (w : WireType) (body rest : List ℕ) : Type 0 where
   pub faults : (e : DecodeError) → ElementFault w e rest → ElementFault w e body
   pub plains : Fueled w rest → Fueled w body
 
-pub nothing_parted : (w : WireType) (body : List ℕ) → Parted w body body
-nothing_parted w body = record { faults = λ e f. f; plains = λ x. x }
-
 pub element_parted : (w : WireType) (body rest after : List ℕ) → Parted w body rest → rest ≢ [] → TakesPlain w rest after → Parted w body after
 element_parted w body rest after x some taken = go rest x some taken
   where

@@ -1,14 +1,13 @@
 -- What the search passes over and refuses of the field of a row.
-use Rattle.std.specs.Prelude.{◌≡◌, ◌≢◌, ◌<◌, ◌||◌, if◌then◌else◌}
+use Rattle.std.specs.Prelude.{◌≡◌, ◌≢◌, ◌<◌, if◌then◌else◌}
 use Rattle.std.proofs.Common.{ℕ, suc, Bool, true, false, List, [], length, Some, inl, inr, refl, sym, ap, ap₂, subst, ◌∙◌}
-use Rattle.std.proofs.Math.Bool.{or-false}
 use Rattle.std.specs.Option.{is_some}
 use Rattle.prost_reflect_wire.specs.Grammar.{plains_within, has_level}
 use Rattle.prost_reflect_wire.specs.Scalar.{ScalarKind, StringKind, kind_wire}
-use Rattle.prost_reflect_wire.specs.Schema.{Schema, Kind, ScalarOf, MessageOf, GroupOf, ValueType, Singular, Repeated, Field, is_map}
+use Rattle.prost_reflect_wire.specs.Schema.{Schema, Kind, ScalarOf, MessageOf, GroupOf, ValueType, Repeated, Field}
 use Rattle.prost_reflect_wire.specs.Edit.{message_of_kind}
 use Rattle.prost_reflect_wire.specs.Front.{KeyFront, PlainFault}
-use Rattle.prost_reflect_wire.specs.Fault.{Place, Inside, OfType, OfEntry, OfNothing, field_at, takes, one_takes, packed_takes, opens_level, same_wire, ElementFault}
+use Rattle.prost_reflect_wire.specs.Fault.{Place, Inside, OfType, OfEntry, OfNothing, field_at, opens_level, same_wire, ElementFault}
 use Rattle.prost_reflect_wire.specs.declared.key.WireType.{WireType}
 use Rattle.prost_reflect_wire.specs.declared.key.WireType.TheVariants as wires
 use Rattle.prost_reflect_wire.specs.declared.error.DecodeError.{DecodeError}
@@ -21,7 +20,7 @@ use Rattle.prost_reflect_tables.specs.declared.tables.TableKind.TheVariants as k
 use Rattle.prost_reflect_faults.specs.Positions.{StandsAt}
 use Rattle.prost_reflect_faults.specs.Searching.{MessageThere, KindField, ListField, MapField, GroupInside, TakesPayload, TakesScalar, RefusesScalar, TakesPacked, RefusesPacked, among, place_at, type_of_row, wire_of_kind}
 use Rattle.prost_reflect_faults.specs.declared.inside.Region.{Region}
-use Rattle.prost_reflect_faults.proofs.Rows.{wire_is, shown_scalar, shown_packable, not_packed, scalar_fits}
+use Rattle.prost_reflect_faults.proofs.Rows.{wire_is, shown_scalar, shown_packable, scalar_fits}
 use Rattle.prost_reflect_faults.proofs.Standing.{plain_refused, deep_refused, kind_refused, deep_kind_refused, text_refused, packed_refused, map_refused, deep_map_refused}
 use Rattle.prost_reflect_laws.proofs.KindsAllowed.{same_is}
 use Rattle.prost_reflect_laws.proofs.BodyOrFault.{no_level}
@@ -55,28 +54,6 @@ module _ (rows : TableRows) (row : FieldTable) where
   message_there T kind there = there T (ap (λ k. message_of_kind (schema_kind rows.enums k row.is_group)) kind ∙ named T row.is_group)
 
 -- FIELDS
-
-module _ (rows : TableRows) (region : Region) (bytes : List ℕ) (n : ℕ) (w : WireType) (f : Field) (found : field_at (schema_from rows) (among rows region.inside) n ≡ Some f) (row : FieldTable) (typed : f.value_type ≡ type_of_row rows row) where
-  pub one_kind : f.form ≡ Singular → KindField (schema_from rows) (place_at rows region bytes) n w (type_of_row rows row).kind
-  one_kind form = record {
-    field = f;
-    found = found;
-    single = ap is_map form;
-    takes_one = ap (λ c. takes c f.value_type.kind w) form;
-    kind_is = ap (λ (t : ValueType). t.kind) typed;
-  }
-
-  pub list_kind : (packed : Bool) → f.form ≡ Repeated packed → (w ≡ wires.LengthDelimited → linking.is_packable row.kind ≡ true → ⊥) → KindField (schema_from rows) (place_at rows region bytes) n w (type_of_row rows row).kind
-  list_kind packed form none =
-      let kind : f.value_type.kind ≡ (type_of_row rows row).kind = ap (λ (t : ValueType). t.kind) typed in
-      let unpacked : packed_takes f.value_type.kind w ≡ false = ap (λ k. packed_takes k w) kind ∙ not_packed rows.enums row.kind row.is_group w none in
-      record {
-        field = f;
-        found = found;
-        single = ap is_map form;
-        takes_one = ap (λ c. takes c f.value_type.kind w) form ∙ ap (λ b. one_takes f.value_type.kind w || b) unpacked ∙ or-false (one_takes f.value_type.kind w);
-        kind_is = kind;
-      }
 
 -- SCALARS
 

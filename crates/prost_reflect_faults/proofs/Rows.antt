@@ -1,5 +1,5 @@
 -- What the rows say of the fields of a number, and of their kinds.
-use Rattle.std.specs.Prelude.{◌≡◌, ◌≢◌, ◌<◌, ◌&&◌, if◌then◌else◌}
+use Rattle.std.specs.Prelude.{◌≡◌, ◌≢◌, ◌<◌, if◌then◌else◌}
 use Rattle.std.proofs.Common.{ℕ, Bool, true, false, List, length, Option, Some, None, inl, inr, refl, sym, ap, subst, ◌∙◌, true≢false}
 use Rattle.std.specs.Prelude.{slice_get}
 use Rattle.std.specs.Option.{is_some}
@@ -10,19 +10,18 @@ use Rattle.std.proofs.lemmas.List.{length-map}
 use Rattle.prost_reflect_wire.specs.Record.{Len, Flat}
 use Rattle.prost_reflect_wire.specs.Scalar as scalars
 use Rattle.prost_reflect_wire.specs.Scalar.{ScalarKind, StringKind, kind_wire}
-use Rattle.prost_reflect_wire.specs.Schema.{Kind, ScalarOf, MessageOf, GroupOf, ValueType, Singular, Repeated, MapFrom, Field, known, field_of, kind_valid, is_key_kind, is_packable}
+use Rattle.prost_reflect_wire.specs.Schema.{Kind, ScalarOf, MessageOf, GroupOf, ValueType, Repeated, Field, known, field_of, kind_valid, is_key_kind, is_packable}
 use Rattle.prost_reflect_wire.specs.Edit.{message_of_kind}
 use Rattle.prost_reflect_wire.specs.Grammar.{fits}
-use Rattle.prost_reflect_wire.specs.Fault.{packed_takes, same_wire}
 use Rattle.prost_reflect_wire.specs.declared.key.WireType.{WireType}
 use Rattle.prost_reflect_wire.specs.declared.key.WireType.TheVariants as wires
 use Rattle.prost_reflect_laws.proofs.Checked.{known_valid, found_valid, CheckedField, checked_field, checked_map}
-use Rattle.prost_reflect_laws.proofs.KindsAllowed.{wire_fits, same_is}
-use Rattle.prost_reflect_tables.specs.Rows.{TableRows, EnumRow, FieldRow, MessageRow}
+use Rattle.prost_reflect_laws.proofs.KindsAllowed.{wire_fits}
+use Rattle.prost_reflect_tables.specs.Rows.{TableRows, EnumRow, FieldRow}
 use Rattle.prost_reflect_tables.specs.Linked.{is_linked}
 use Rattle.prost_reflect_tables.specs.Linking as linking
-use Rattle.prost_reflect_tables.specs.Shown.{schema_kind, enum_kind, own_type, type_or, map_entry, form_of, value_type_of, schema_field, schema_from}
-use Rattle.prost_reflect_tables.specs.declared.tables.Cardinality.TheVariants.{Optional, Required, Repeated as RepeatedLabel}
+use Rattle.prost_reflect_tables.specs.Shown.{schema_kind, enum_kind, own_type, map_entry, form_of, value_type_of, schema_field, schema_from}
+use Rattle.prost_reflect_tables.specs.declared.tables.Cardinality.TheVariants.{Repeated as RepeatedLabel}
 use Rattle.prost_reflect_tables.specs.declared.tables.TableKind.{TableKind}
 use Rattle.prost_reflect_tables.specs.declared.tables.TableKind.TheVariants as kinds
 use Rattle.prost_reflect_tables.specs.declared.tables.TableKind.TheVariants.{Double, Float, Int32, Int64, Uint32, Uint64, Sint32, Sint64, Fixed32, Fixed64, Sfixed32, Sfixed64, Bool as BoolKind, String, Bytes, Message, Enum}
@@ -150,34 +149,6 @@ shown_packable enums BoolKind g h = record { scalar = scalars.BoolKind; shown = 
 shown_packable enums (Enum E) g h = record { scalar = enum_kind (slice_get enums E); shown = refl; packable = enum_packable (slice_get enums E) }
 shown_packable enums kind g h = absurd (true≢false (sym h))
 
-shown_unpackable : (enums : List EnumRow) (kind : TableKind) (g : Bool) (k : ScalarKind) → linking.is_packable kind ≡ false → schema_kind enums kind g ≡ ScalarOf k → is_packable k ≡ false
-shown_unpackable enums String g k h e = ap is_packable (sym (scalar_inside scalars.StringKind k e))
-shown_unpackable enums Bytes g k h e = ap is_packable (sym (scalar_inside scalars.BytesKind k e))
-shown_unpackable enums (Message T) true k h e = cc
-shown_unpackable enums (Message T) false k h e = cc
-shown_unpackable enums kind g k h e = absurd (true≢false h)
-
--- Of no other kind is a record packed, nor at another wire type.
-pub not_packed : (enums : List EnumRow) (kind : TableKind) (g : Bool) (w : WireType) → (w ≡ wires.LengthDelimited → linking.is_packable kind ≡ true → ⊥) → packed_takes (schema_kind enums kind g) w ≡ false
-not_packed enums kind g w none = go (schema_kind enums kind g) refl
-  where
-    unpackable : (k : ScalarKind) → schema_kind enums kind g ≡ ScalarOf k → w ≡ wires.LengthDelimited → is_packable k ≡ true → ⊥
-    unpackable k e at packable = by (linking.is_packable kind) refl
-      where
-        by : (b : Bool) → linking.is_packable kind ≡ b → ⊥
-        by true h = none at h
-        by false h = true≢false (sym packable ∙ shown_unpackable enums kind g k h e)
-
-    scalar : (k : ScalarKind) → schema_kind enums kind g ≡ ScalarOf k → (a b : Bool) → is_packable k ≡ a → same_wire w wires.LengthDelimited ≡ b → (a && b) ≡ false
-    scalar k e true true h at = absurd (unpackable k e (same_is w wires.LengthDelimited at) h)
-    scalar k e true false h at = refl
-    scalar k e false b h at = refl
-
-    go : (c : Kind) → schema_kind enums kind g ≡ c → packed_takes c w ≡ false
-    go (ScalarOf k) e = scalar k e (is_packable k) (same_wire w wires.LengthDelimited) refl refl
-    go (MessageOf T) e = refl
-    go (GroupOf T) e = refl
-
 -- A scalar of the kind is one of the kind that it is shown as.
 pub scalar_fits : (enums : List EnumRow) (kind : TableKind) (g : Bool) (k : ScalarKind) (w : WireType) (bytes rest : List ℕ) → schema_kind enums kind g ≡ ScalarOf k → (x : TakesScalar kind w bytes rest) → fits k (Flat x.plain) ≡ true
 scalar_fits enums kind g k w bytes rest e x = elim (wire_fits k x.plain (x.wire ∙ x.named ∙ sym (wire_is enums kind g k e))) [
@@ -190,52 +161,17 @@ scalar_fits enums kind g k w bytes rest e x = elim (wire_fits k x.plain (x.wire 
 -- FIELDS THAT ARE ROWS
 
 module _ (rows : TableRows) (row : FieldRow) where
-  pub map_is : (entry : MessageRow) (key value : ValueType) → row.cardinality ≡ RepeatedLabel → map_entry rows.messages row RepeatedLabel ≡ Some entry
-      → key ≡ type_or rows.enums row (slice_get entry.fields 0) → value ≡ type_or rows.enums row (slice_get entry.fields 1) → ((schema_field rows row).form ≡ MapFrom key) × ((schema_field rows row).value_type ≡ value)
-  map_is entry key value repeated found key_is value_is = (
-    ap (λ c. form_of rows.enums row c (map_entry rows.messages row c)) repeated ∙ ap (form_of rows.enums row RepeatedLabel) found ∙ ap MapFrom (sym key_is),
-    ap (λ c. value_type_of rows.enums row (map_entry rows.messages row c)) repeated ∙ ap (value_type_of rows.enums row) found ∙ sym value_is,
-  )
-
   pub list_is : row.cardinality ≡ RepeatedLabel → map_entry rows.messages row RepeatedLabel ≡ None → ((packed : Bool) × ((schema_field rows row).form ≡ Repeated packed)) × ((schema_field rows row).value_type ≡ own_type rows.enums row)
   list_is repeated none = (
     (row.is_packed, ap (λ c. form_of rows.enums row c (map_entry rows.messages row c)) repeated ∙ ap (form_of rows.enums row RepeatedLabel) none),
     ap (λ c. value_type_of rows.enums row (map_entry rows.messages row c)) repeated ∙ ap (value_type_of rows.enums row) none,
   )
 
-  pub optional_is : row.cardinality ≡ Optional → ((schema_field rows row).form ≡ Singular) × ((schema_field rows row).value_type ≡ own_type rows.enums row)
-  optional_is single = (ap (λ c. form_of rows.enums row c (map_entry rows.messages row c)) single, ap (λ c. value_type_of rows.enums row (map_entry rows.messages row c)) single)
-
-  pub required_is : row.cardinality ≡ Required → ((schema_field rows row).form ≡ Singular) × ((schema_field rows row).value_type ≡ own_type rows.enums row)
-  required_is single = (ap (λ c. form_of rows.enums row c (map_entry rows.messages row c)) single, ap (λ c. value_type_of rows.enums row (map_entry rows.messages row c)) single)
-
 -- The field of a message type's number.
 pub field_known : (rows : TableRows) → is_linked rows ≡ true → (T n : ℕ) (f : Field) (known_as : Known) → field_of (known (schema_from rows) T) n ≡ Some f → IsField rows known_as f → KnownAt rows (OfMessage T) n known_as
 field_known rows linked T n f known_as found is = record { field = f; found = found; is = is; there = known_there rows linked T n f known_as found is }
 
 -- WIRE TYPES OF KINDS
-
-pub wire_no_start : (kind : TableKind) → wire_of_kind kind ≢ wires.StartGroup
-wire_no_start Double e = cc
-wire_no_start Fixed64 e = cc
-wire_no_start Sfixed64 e = cc
-wire_no_start Float e = cc
-wire_no_start Fixed32 e = cc
-wire_no_start Sfixed32 e = cc
-wire_no_start String e = cc
-wire_no_start Bytes e = cc
-wire_no_start kind e = cc
-
-pub wire_no_end : (kind : TableKind) → wire_of_kind kind ≢ wires.EndGroup
-wire_no_end Double e = cc
-wire_no_end Fixed64 e = cc
-wire_no_end Sfixed64 e = cc
-wire_no_end Float e = cc
-wire_no_end Fixed32 e = cc
-wire_no_end Sfixed32 e = cc
-wire_no_end String e = cc
-wire_no_end Bytes e = cc
-wire_no_end kind e = cc
 
 -- TEXT
 

@@ -108,12 +108,6 @@ module _ (schema : Schema) (place : Place) (n : ℕ) where
 -- BODIES
 
 module _ (schema : Schema) (place : Place) (small : AreBytes place.bytes) where
-  pub body_ends : place.bytes ≡ [] → place.open_group ≡ None → (rest : List ℕ) → rest ≡ [] → TakesBody schema place rest
-  body_ends empty closed rest none = record {
-    records = NoRecords;
-    body = record { small = small; end = place.bytes; records = none_front place.bytes; ends = subst (λ o. Ended o place.bytes rest) (sym closed) (empty, none); allowed = refl };
-  }
-
   pub body_stops : (n : ℕ) (rest : List ℕ) → place.open_group ≡ Some n → KeyFront n wires.EndGroup place.bytes rest → TakesBody schema place rest
   body_stops n rest opened key = record {
     records = NoRecords;
@@ -126,14 +120,6 @@ pub record Searched (schema : Schema) (place : Place) (rest : List ℕ) : Type 0
   pub shorter : length rest ≤ length place.bytes
   pub faults : (e : DecodeError) (offset : ℕ) (path : List ℕ) → StandsAt schema (record place { bytes = rest }) e offset path → StandsAt schema place e ((length place.bytes - length rest) + offset) path
   pub bodies : (end : List ℕ) → TakesBody schema (record place { bytes = rest }) end → TakesBody schema place end
-
-pub nothing_searched : (schema : Schema) (place : Place) → AreBytes place.bytes → Searched schema place place.bytes
-nothing_searched schema place small = record {
-  small = small;
-  shorter = omega arith;
-  faults = λ e offset path s. stands_moved schema place e offset ((length place.bytes - length place.bytes) + offset) path (omega arith) s;
-  bodies = λ end taken. taken;
-}
 
 pub record_searched : (schema : Schema) (place : Place) (rest : List ℕ) → Searched schema place rest → (n : ℕ) (w : WireType) (behind after : List ℕ) → KeyFront n w rest behind → TakesPayload schema (record place { bytes = rest }) n w behind after
     → Searched schema place after

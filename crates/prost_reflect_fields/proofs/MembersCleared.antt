@@ -1,24 +1,12 @@
 -- Clearing the members of a oneof one after another.
 use Rattle.std.specs.Prelude.{◌≡◌, ◌+◌, ◌<◌, ◌&&◌, ◌||◌, ◌∷◌, ◌++◌}
-use Rattle.prost_reflect_fields.proofs.Common.{ℕ, zero, suc, length, drop, drop-cons, get_or, arith, Bool, true, false, not, nat_eq, List, [], map, Option, Some, None, refl, ap, sym, ◌∙◌, true≢false, slice_get, option_map, option_to_list, ne_eqb, eqb-true, eqb-false, and_parts, or_left, or_right, slice_get-map, same_Some, list_any, option_and_then, Field, field_of, is_sibling, same_oneof, passes, field_number, FieldRow, field_row, TableRows, FieldSlot, PooledType, pool_rows, fields_of, IsAscending, without_values, clear_value, known_of, oneof_of, are_siblings, is_member, rows_at, HasMembers}
+use Rattle.prost_reflect_fields.proofs.Common.{ℕ, zero, suc, length, drop, drop-cons, get_or, arith, Bool, true, false, not, nat_eq, List, [], map, Option, Some, None, refl, ap, sym, ◌∙◌, true≢false, slice_get, option_map, option_to_list, ne_eqb, eqb-true, eqb-false, and_parts, or_left, or_right, slice_get-map, same_Some, list_any, option_and_then, Field, field_of, is_sibling, same_oneof, passes, field_number, FieldRow, field_row, TableRows, FieldSlot, PooledType, pool_rows, fields_of, IsAscending, without_values, known_of, oneof_of, are_siblings, is_member, rows_at, HasMembers}
 use Rattle.prost_reflect_tables.specs.declared.tables.FieldTable.{FieldTable}
 use Rattle.prost_reflect_tables.specs.Shown.{schema_field}
 use Rattle.prost_reflect_tables.proofs.Fields.{known_rows}
 use Rattle.prost_reflect_fields.proofs.SlotChanges.{without_both, without_none, without_same_test}
 
 module _ (f : FieldTable) (o : Option ℕ) (n : ℕ) where
-  -- the only number that is cleared
-  alone : (k : ℕ) → nat_eq f.number n ≡ false → same_oneof f.oneof o ≡ true → nat_eq f.number k ≡ is_member (f ∷ []) o n k
-  alone k other same = cases (nat_eq f.number k) refl ∙ ap (λ b. not (nat_eq k n) && ((nat_eq f.number k && b) || false)) (sym same)
-    where
-      none : (b : Bool) → false ≡ not b && false
-      none true = refl
-      none false = refl
-
-      cases : (b : Bool) → nat_eq f.number k ≡ b → b ≡ not (nat_eq k n) && ((b && true) || false)
-      cases true at = ap (λ b. not b && true) (sym (ne_eqb k n (λ e. eqb-false f.number n other (eqb-true f.number k at ∙ e))))
-      cases false at = none (nat_eq k n)
-
   own : (k : ℕ) → nat_eq f.number n ≡ true → is_member (f ∷ []) o n k ≡ false
   own k is = cases (nat_eq k n) refl
     where
@@ -36,9 +24,6 @@ module _ (f : FieldTable) (o : Option ℕ) (n : ℕ) where
       none true c = refl
       none false true = refl
       none false false = refl
-
-  pub one_cleared : {V : Type 0} (es : List (ℕ × FieldSlot V)) → nat_eq f.number n ≡ false → same_oneof f.oneof o ≡ true → clear_value es f.number ≡ without_values (is_member (f ∷ []) o n) es
-  one_cleared es other same = without_same_test (nat_eq f.number) (is_member (f ∷ []) o n) es (λ k. alone k other same)
 
   pub own_stays : {V : Type 0} (es : List (ℕ × FieldSlot V)) → nat_eq f.number n ≡ true → es ≡ without_values (is_member (f ∷ []) o n) es
   own_stays es is = sym (without_none (is_member (f ∷ []) o n) es (λ k. own k is))

@@ -142,11 +142,3 @@ none_listed d m o at past i f found same =
     let within = passes_at (field_linked (length rows.messages) (length rows.enums) (length m.oneofs)) m.fields i f (and_parts _ _ (and_parts _ _ (and_parts _ _ keeps).0).0).1 (ap (λ (fs : List FieldRow). slice_get fs i) (sym (fields_are d m at)) ∙ found) in
     let there : o < length m.oneofs = ltb-true o (length m.oneofs) (ap (oneof_in_range (length m.oneofs)) (sym (is_same f.oneof o same)) ∙ (and_parts _ _ within).1) in
     absurd (omega arith)
-
--- A field without a oneof has no members beside it.
-pub without_oneof : (fields : List FieldRow) → HasMembers fields None []
-without_oneof fields i f found same = absurd (go f.oneof same)
-  where
-    go : (a : Option ℕ) → same_oneof a None ≡ true → ⊥
-    go None h = true≢false (sym h)
-    go (Some q) h = true≢false (sym h)

@@ -1,6 +1,6 @@
 -- Setting where it is known which member of a oneof can have a value.
 use Rattle.std.specs.Prelude.{◌≡◌, ◌||◌}
-use Rattle.prost_reflect_fields.proofs.Common.{ℕ, Bool, true, false, cond, not, nat_eq, List, Option, Some, None, refl, ap, sym, ◌∙◌, subst, true≢false, eq-eqb, ne_eqb, eqb-true, eqb-false, and_parts, and_from, option_and_then, is_some, Field, same_oneof, numbers_differ, FieldSlot, Value, Unknown, Both, IsAscending, item_at, value_in, left_in, has_value, put_value, clear_value, without_values, oneof_of, are_siblings, OnlyMember}
+use Rattle.prost_reflect_fields.proofs.Common.{ℕ, Bool, true, false, cond, not, nat_eq, List, Option, Some, None, refl, ap, sym, ◌∙◌, subst, true≢false, eq-eqb, ne_eqb, eqb-true, and_parts, and_from, option_and_then, is_some, Field, same_oneof, numbers_differ, FieldSlot, Value, Unknown, Both, IsAscending, item_at, value_in, left_in, has_value, put_value, clear_value, without_values, oneof_of, are_siblings, OnlyMember}
 use Rattle.prost_reflect_maps.proofs.ItemChanges.{apart_of, same_items}
 use Rattle.prost_reflect_fields.proofs.SlotChanges.{item_without, ascending_without_values, value_put_apart}
 use Rattle.prost_reflect_fields.proofs.Siblings.{siblings_self}
@@ -13,9 +13,6 @@ same_through None b c h g = absurd (true≢false (sym h))
 same_through (Some i) None c h g = absurd (true≢false (sym g))
 same_through (Some i) (Some j) None h g = absurd (true≢false (sym h))
 same_through (Some i) (Some j) (Some o) h g = eq-eqb j i (eqb-true j o g ∙ sym (eqb-true i o h))
-
-apart_back : (n k : ℕ) → nat_eq k n ≡ false → nat_eq n k ≡ false
-apart_back n k h = ne_eqb n k (λ e. eqb-false k n h (sym e))
 
 -- another member of the oneof of n's field is a sibling
 pub sibling_of : (fields : List Field) (n k : ℕ) → numbers_differ fields ≡ true → nat_eq k n ≡ false → same_oneof (oneof_of fields k) (oneof_of fields n) ≡ true → are_siblings fields n k ≡ true

@@ -286,6 +286,3 @@ module _ {V : Type 0} where
             (λ k a. same_records es (with_item es n d) k (with_apart es n k d a));
         order = ascending_with es n d;
       }
-
-  pub same_unchanged : (es ds : List (ℕ × FieldSlot V)) → ds ≡ es → SameStored es ds
-  same_unchanged es ds h = record { values = λ k. ap (λ ls. stored_at ls k) h; records = λ k. ap (λ ls. records_at ls k) h; order = λ s. subst IsAscending (sym h) s }

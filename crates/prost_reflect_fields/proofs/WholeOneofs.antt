@@ -21,21 +21,6 @@ inserted old new n updates q = updates q ∙ ap (λ b. cond b true (has old q)) 
     either true = refl
     either false = refl
 
--- a number that was there
-pub there_already : (old new : BTreeSet ℕ) (n : ℕ) → Updated old new n → has old n ≡ true → (q : ℕ) → has new q ≡ has old q
-there_already old new n updates is q = inserted old new n updates q ∙ cases (nat_eq n q) refl
-  where
-    cases : (b : Bool) → nat_eq n q ≡ b → (b || has old q) ≡ has old q
-    cases true e = sym is ∙ ap (has old) (eqb-true n q e)
-    cases false e = refl
-
-pub not_false : (b : Bool) → false ≡ not b → b ≡ true
-not_false true h = refl
-not_false false h = absurd (true≢false (sym h))
-
-pub whole_same : (fields : List Field) (old new : BTreeSet ℕ) → ((q : ℕ) → has new q ≡ has old q) → HasWholeOneofs fields old → HasWholeOneofs fields new
-whole_same fields old new same whole n k h siblings = same k ∙ whole n k (sym (same n) ∙ h) siblings
-
 -- MEMBERS
 
 abbrev pub in_oneof : List Field → Option ℕ → ℕ → Bool
@@ -78,9 +63,6 @@ module _ (d : PooledType) (old mid new : BTreeSet ℕ) (n : ℕ) (table : List F
   from_members : (k : ℕ) → in_oneof (known_of d) oneof k ≡ true → has new k ≡ true
   from_members k h = members k ∙ or_right (has mid k) (is_in_oneof (rows_at table places) oneof k) (in_known k ∙ h)
 
-  pub number_added : has new n ≡ true
-  number_added = from_mid n (inserted old mid n updates n ∙ or_left (nat_eq n n) (has old n) (eq-eqb n n refl))
-
   pub numbers_stay : (k : ℕ) → has old k ≡ true → has new k ≡ true
   numbers_stay k h = from_mid k (inserted old mid n updates k ∙ or_right (nat_eq n k) (has old k) h)
 
@@ -94,24 +76,6 @@ module _ (d : PooledType) (old mid new : BTreeSet ℕ) (n : ℕ) (table : List F
 -- ROW BY ROW
 
 module _ (f : FieldTable) (oneof : Option ℕ) where
-  -- the number of a member
-  pub one_added : (old new : BTreeSet ℕ) → same_oneof f.oneof oneof ≡ true → Updated old new f.number → (k : ℕ) → has new k ≡ (has old k || is_in_oneof (f ∷ []) oneof k)
-  one_added old new same updates k = inserted old new f.number updates k ∙ cases (nat_eq f.number k) (has old k) ∙ ap (λ b. has old k || ((nat_eq f.number k && b) || false)) (sym same)
-    where
-      cases : (a b : Bool) → (a || b) ≡ (b || ((a && true) || false))
-      cases true true = refl
-      cases true false = refl
-      cases false true = refl
-      cases false false = refl
-
-  pub none_added : (numbers : BTreeSet ℕ) → same_oneof f.oneof oneof ≡ false → (k : ℕ) → has numbers k ≡ (has numbers k || is_in_oneof (f ∷ []) oneof k)
-  none_added numbers apart k = cases (has numbers k) (nat_eq f.number k) ∙ ap (λ b. has numbers k || ((nat_eq f.number k && b) || false)) (sym apart)
-    where
-      cases : (a b : Bool) → a ≡ (a || ((b && false) || false))
-      cases true b = refl
-      cases false true = refl
-      cases false false = refl
-
   pub then_added : (old new : BTreeSet ℕ) (rest : List FieldTable) (k : ℕ) → has new k ≡ (has old k || is_in_oneof (f ∷ []) oneof k) → (has new k || is_in_oneof rest oneof k) ≡ (has old k || is_in_oneof (f ∷ rest) oneof k)
   then_added old new rest k is = ap (λ b. b || is_in_oneof rest oneof k) is ∙ cases (has old k) (nat_eq f.number k && same_oneof f.oneof oneof) (is_in_oneof rest oneof k)
     where

@@ -9,7 +9,7 @@ ghost use Rattle.prost_reflect_maps.specs.Items.{IsAscending};
 ghost use Rattle.prost_reflect_fields.specs.Known.{known_of, is_known, is_listed, keeps_unknown, oneof_of};
 ghost use Rattle.prost_reflect_maps.specs.NumberSets.{AreReplaced};
 ghost use Rattle.prost_reflect_fields.specs.WholeOneofs.{HasWholeOneofs};
-ghost use Rattle.prost_reflect_fields.specs.FieldSlots.{stored_at, unknown_at, clear_value, without_values, values_where, with_value, UnknownAdded, SameStored, unknown_sets, values_alone};
+ghost use Rattle.prost_reflect_fields.specs.FieldSlots.{stored_at, clear_value, without_values, values_where, with_value, UnknownAdded, SameStored, unknown_sets, values_alone};
 ghost use Rattle.prost_reflect_fields.specs.Sound.{IsSound, set_value_at, prepared};
 ghost use Rattle.prost_reflect_maps.specs.ItemsLeft.{items_left, items_left_back};
 
@@ -17,7 +17,7 @@ use crate::noting::noted_members;
 use crate::parting::parted;
 use crate::slot::FieldSlot;
 use crate::slot_map::SlotMap;
-use crate::stored::{add_unknown, oneof_of, stored_at, take_value, unknown_at, value_mut};
+use crate::stored::{add_unknown, oneof_of, stored_at, take_value, value_mut};
 use crate::taking::take_unknown;
 use prost_reflect_maps::boxed::Boxed;
 use prost_reflect_maps::items::ItemList;
@@ -134,13 +134,6 @@ impl<V: Drop> FieldSet<V> {
     {
         ascending(&self.fields);
         stored_at(&self.fields, number)
-    }
-
-    /// The unknown fields at the number.
-    pub fn unknown(&self, number: u32) -> Option<&UnknownFieldSet>
-        ensures { option_copied result ≡ unknown_at self.now.1 number }
-    {
-        unknown_at(&self.fields, number)
     }
 
     /// Takes the value at the number. The unknown fields stay.

@@ -36,10 +36,6 @@ module _ (fields : List Field) (n : ℕ) where
   unknowns_of_block [] e = refl
   unknowns_of_block (p ∷ ps) e = ap₂ ◌++◌ (ap (λ (o : Option Field). elim o [ None ↦ p ∷ [] | Some f ↦ stray_payloads f.form f.value_type p ]) e) (unknowns_of_block ps e)
 
-  pub values_none : (ps : List Payload) → field_of fields n ≡ None → flat_map (value_records fields) (map (record_at n) ps) ≡ []
-  values_none [] e = refl
-  values_none (p ∷ ps) e = ap₂ ◌++◌ (ap (λ (o : Option Field). elim o [ None ↦ [] | Some f ↦ map (λ p. record { number = n; payload = p }) (value_payloads f.form f.value_type p) ]) e) (values_none ps e)
-
   -- what is taken of records keeps their numbers
   pub filter_values : (rs : List Record) → filter (has_number n) (flat_map (value_records fields) rs) ≡ flat_map (value_records fields) (filter (has_number n) rs)
   filter_values [] = refl

@@ -333,12 +333,6 @@ mutual
 
 -- RECORDS
 
-default_same : (value_type : ValueType) (v : Value) → is_default_of value_type (eased_value v) ≡ is_default_of value_type v
-default_same value_type (ScalarValue v) = refl
-default_same value_type (MessageValue c) = refl
-default_same value_type (ListValue vs) = refl
-default_same value_type (MapValue ps) = refl
-
 entry_value : (key value_type : ValueType) (k : Scalar) (v : Value) (p : Payload) → entry_payload key value_type k (eased_value v) p ≡ entry_payload key value_type k v p
 entry_value key value_type k (ScalarValue v) p = refl
 entry_value key value_type k (MessageValue c) p = refl

@@ -1,6 +1,6 @@
 -- Elements of a packed record, read one behind another.
 use Rattle.std.specs.Prelude.{◌||◌, ◌≡◌, ◌≢◌, ◌&&◌, ◌⊎◌, ◌∷◌, ◌++◌}
-use Rattle.prost_reflect_laws.proofs.Common.{or_left, or_right, ℕ, Bool, true, false, cond, inl, inr, List, [], map, flat_map, Option, Some, refl, ap, ap₂, sym, ◌∙◌, subst, append_assoc, append-nil, true≢false, ◌>>=◌, is_some, and_from, same_Some, DecodeError, WireType, Plain, Var, Fix64, Len, Fix32, Flat, DelimitedFront, PlainFault, PayloadEnds, PayloadPasses, Scalar, ScalarKind, elem, kind_wire, ScalarOf, Repeated, Field, is_packable, is_map, Value, ScalarValue, or_none, unpacked, element_payloads_in, fits, packed_allowed, scalar_values, ElementFault, ElementEnds, ElementPasses, PackedNext, takes, same_wire, ScalarRead, ScalarFault, FieldFault, ElementsRead, packed_values, bind_ok, flat_append, delimited_plain}
+use Rattle.prost_reflect_laws.proofs.Common.{or_left, or_right, ℕ, Bool, true, false, cond, inl, inr, List, [], map, flat_map, Option, Some, refl, ap, ap₂, sym, ◌∙◌, subst, append_assoc, true≢false, ◌>>=◌, is_some, and_from, same_Some, DecodeError, WireType, Plain, Var, Fix64, Len, Fix32, Flat, DelimitedFront, PlainFault, PayloadEnds, PayloadPasses, Scalar, ScalarKind, elem, kind_wire, ScalarOf, Repeated, Field, is_packable, is_map, Value, ScalarValue, or_none, unpacked, element_payloads_in, fits, packed_allowed, scalar_values, ElementFault, ElementEnds, ElementPasses, PackedNext, takes, same_wire, ScalarRead, ScalarFault, FieldFault, ElementsRead, packed_values, bind_ok, flat_append, delimited_plain}
 use Rattle.prost_reflect_wire.specs.declared.error.DecodeError.TheVariants as errors
 use Rattle.prost_reflect_wire.specs.declared.key.WireType.TheVariants as wires
 use Rattle.prost_reflect_laws.proofs.KindsAllowed.{kind_no_end, element_name}
@@ -18,9 +18,6 @@ pub record ElementsSoFar (kind : ScalarKind) (old new : List Value) (body rest :
   pub added : new ≡ old ++ plain_values kind plains
 
 module _ (kind : ScalarKind) where
-  pub elements_none : (old : List Value) (body : List ℕ) → ElementsSoFar kind old old body body
-  elements_none old body = record { plains = []; front = refl; added = sym (append-nil old) }
-
   pub elements_more : (v : Scalar) (old new newer : List Value) (body mid rest : List ℕ) → ElementsSoFar kind old new body mid → ScalarRead kind (kind_wire kind) v mid rest → newer ≡ new ++ ScalarValue v ∷ [] →
       ElementsSoFar kind old newer body rest
   elements_more v old new newer body mid rest s r e = record {

@@ -1,7 +1,7 @@
 -- Where a number stands among ascending numbers.
 use Rattle.std.specs.Prelude.{◌≡◌, ◌<◌, ◌≤◌, ◌∷◌}
-use Rattle.prost_reflect_maps.proofs.Common.{true, ℕ, zero, suc, List, [], length, slice_index_or, slice_set, None, Some, arith, ap, sym, ◌∙◌, subst, refl, slice_get, nat_lt, false, exact_unsigned, none-some, same_Some, nat_cmp_total, nat_cmp, ordering_index, ordering_reverse, is_le, Ordering, Less, Equal, Greater, Result, Ok, Err, AllByRecursion, AllWithin, HoldsAt, insert, remove, IsStrictlySortedBy, IsBinarySearchResult, IsSearchInRange, IsNonDecreasingBy, keys_of, values_of, is_at, seek, index_of, one_further, IsAscending, item_at, with_item, put_item, without_item}
-use Rattle.std_collections.proofs.Seek.{AnswersAt, found_at, seek-Ok, seek_err, missing_at, insert_entry_err, insert_entry-Ok, sorted_insert}
+use Rattle.prost_reflect_maps.proofs.Common.{true, ℕ, zero, suc, List, [], length, slice_index_or, slice_set, None, Some, arith, ap, sym, ◌∙◌, subst, refl, slice_get, exact_unsigned, none-some, same_Some, nat_cmp_total, nat_cmp, ordering_index, ordering_reverse, is_le, Ordering, Less, Equal, Greater, Result, Ok, Err, AllByRecursion, AllWithin, HoldsAt, insert, remove, IsStrictlySortedBy, IsBinarySearchResult, IsSearchInRange, IsNonDecreasingBy, keys_of, values_of, is_at, seek, index_of, one_further, IsAscending, item_at, with_item, put_item, without_item}
+use Rattle.std_collections.proofs.Seek.{AnswersAt, found_at, seek-Ok, seek_err, missing_at, insert_entry_err, insert_entry-Ok}
 use Rattle.std_collections.proofs.Entries.{NonePasses, remove_entry_none, lookup-none, set_value_none}
 use Rattle.std_collections.specs.Layout.Columns.{set_value_at}
 
@@ -78,9 +78,6 @@ keys-set [] i x h = refl
 keys-set (e ∷ es) zero x h = ap (λ k. k ∷ keys_of es) h
 keys-set (e ∷ es) (suc i) x h = ap (λ ks. e.0 ∷ ks) (keys-set es i x h)
 
-pub ascending_set : {T : Type 0} (es : List (ℕ × T)) (i : ℕ) (x : ℕ × T) → IsAscending es → x.0 ≡ (slice_index_or es i x).0 → IsAscending (slice_set es i x)
-ascending_set es i x s h = subst (IsStrictlySortedBy nat_cmp) (sym (keys-set es i x h)) s
-
 pub set_is : {T : Type 0} (es : List (ℕ × T)) (i k : ℕ) (w : T) → k ≡ (slice_index_or es i (k, w)).0 → slice_set es i (k, w) ≡ set_value_at es i w
 set_is [] i k w h = refl
 set_is (e ∷ es) zero k w h = ap (λ n. (n, w) ∷ es) h
@@ -134,9 +131,6 @@ module _ {T : Type 0} (n : ℕ) (es : List (ℕ × T)) (i : ℕ) (s : IsAscendin
   pub put_absent : (w : T) → insert es i (n, w) ≡ put_item es n w
   put_absent w = insert_entry_err nat_cmp n w es i (sym h)
 
-  pub ascending_insert : (w : T) → IsAscending (insert es i (n, w))
-  ascending_insert w = sorted_insert nat_cmp n w nat_cmp_total es i s (sym h)
-
 module _ {T : Type 0} (n : ℕ) (es : List (ℕ × T)) (i : ℕ) (h : Ok i ≡ seek (nat_cmp n) es) where
   pub without_found : remove es i ≡ without_item es n
   without_found = (found_at (nat_cmp n) es i (sym h)).removes
@@ -160,38 +154,6 @@ module _ {T : Type 0} (n : ℕ) (es : List (ℕ × T)) (i : ℕ) (w : T) (h : Ok
   pub set_same : slice_set es i (n, w) ≡ put_item es n w
   set_same = set_is es i n w at_place ∙ put_found n es i h w
 
-  pub ascending_set_same : IsAscending es → IsAscending (slice_set es i (n, w))
-  ascending_set_same s = ascending_set es i (n, w) s at_place
-
-all_without : {T : Type 0} (P : ℕ → Type 0) (es : List (ℕ × T)) (i : ℕ) → AllByRecursion P (keys_of es) → AllByRecursion P (keys_of (remove es i))
-all_without P [] zero a = a
-all_without P [] (suc i) a = a
-all_without P (e ∷ es) zero a = a.1
-all_without P (e ∷ es) (suc i) a = (a.0, all_without P es i a.1)
-
-ascending_without : {T : Type 0} (es : List (ℕ × T)) (i : ℕ) → IsAscending es → IsAscending (remove es i)
-unfolding IsStrictlySortedBy
-ascending_without [] zero s = s
-ascending_without [] (suc i) s = s
-ascending_without (e ∷ es) zero s = s.1
-ascending_without (e ∷ es) (suc i) s = (all_without (λ y. nat_cmp e.0 y ≡ Less) es i s.0, ascending_without es i s.1)
-
-pub ascending_removed : {T : Type 0} (es ds : List (ℕ × T)) (i : ℕ) → IsAscending es → ds ≡ remove es i → IsAscending ds
-ascending_removed es ds i s h = subst IsAscending (sym h) (ascending_without es i s)
-
-pub ascending_inserted : {T : Type 0} (n : ℕ) (es ds : List (ℕ × T)) (i : ℕ) (w : T) → IsAscending es → Err i ≡ seek (nat_cmp n) es → ds ≡ insert es i (n, w) → IsAscending ds
-ascending_inserted n es ds i w s h e = subst IsAscending (sym e) (ascending_insert n es i s h w)
-
 pub further : (r : Result ℕ ℕ) → index_of (one_further r) ≡ suc (index_of r)
 further (Ok i) = refl
 further (Err i) = refl
-
-pub slice_got : {T : Type 0} (xs : List T) (i : ℕ) (x : T) → true ≡ nat_lt i (length xs) → x ≡ slice_index_or xs i x → slice_get xs i ≡ Some x
-slice_got [] i x l h = grind (arith, l)
-slice_got (y ∷ ys) zero x l h = ap Some (sym h)
-slice_got (y ∷ ys) (suc i) x l h = slice_got ys i x (grind (arith, l)) h
-
-pub slice_past : {T : Type 0} (xs : List T) (i : ℕ) → false ≡ nat_lt i (length xs) → slice_get xs i ≡ None
-slice_past [] i l = refl
-slice_past (y ∷ ys) zero l = grind (arith, l)
-slice_past (y ∷ ys) (suc i) l = slice_past ys i (grind (arith, l))

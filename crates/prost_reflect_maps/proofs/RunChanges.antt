@@ -278,10 +278,6 @@ module _ {T : Type 0} where
       further : (k : ℕ) → suc k + 1 ≡ suc (k + 1)
       further k = omega arith
 
-  length_cut : (before : Runs T) (r : ℕ × Vec (ℕ × T) Global) (after : Runs T) → length before < length (before ++ r ∷ after)
-  length_cut [] r after = omega arith
-  length_cut (b ∷ bs) r after = let l : length bs < length (bs ++ r ∷ after) = length_cut bs r after in omega arith
-
   module _ (n : ℕ) (rs : Runs T) (i : ℕ) (laid : IsLaid rs) (home : IsRunOf n rs i) where
     abbrev in_front : List (ℕ × T)
     in_front = flat home.before
@@ -303,9 +299,6 @@ module _ {T : Type 0} where
 
     pub own_ascends : IsAscending own
     own_ascends = laid_own.0
-
-    pub within_runs : i < length rs
-    within_runs = subst (λ l. i < length l) (sym home.cut) (subst (λ k. k < length (home.before ++ home.run ∷ home.after)) home.place (length_cut home.before home.run home.after))
 
     pub run_got : (d : ℕ × Vec (ℕ × T) Global) → slice_index_or rs i d ≡ home.run
     run_got d = ap (λ l. slice_index_or l i d) home.cut ∙ ap (λ k. slice_index_or (home.before ++ home.run ∷ home.after) k d) (sym home.place) ∙ got_cut home.before home.run d home.after

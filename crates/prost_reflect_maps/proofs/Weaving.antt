@@ -223,6 +223,3 @@ module _ {T : Type 0} where
 
     pub all_walked : (items new olds ds : List (ℕ × T)) → olds ≡ [] → Woven items olds ds → new ≡ items ++ chosen_up_to (has numbers) None ds → IsAscending all_olds → IsAscending all_others → AreReplaced numbers all_olds all_others new
     all_walked items new olds ds none w is s r = subst (AreReplaced numbers all_olds all_others) (sym is) (walked_whole items ds (subst (λ es. Woven items es ds) none w) s r)
-
-    pub start : (items : List (ℕ × T)) → items ≡ [] → IsAscending all_olds → IsAscending all_others → Woven items all_olds all_others
-    start items is s r = subst (λ es. Woven es all_olds all_others) (sym is) (record { at = λ k. refl; olds_ascend = s; others_ascend = r })

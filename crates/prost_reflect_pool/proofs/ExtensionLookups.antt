@@ -1,6 +1,6 @@
 -- What is found of the extensions of a message type, by their numbers and their names.
 use Rattle.std.specs.Prelude.{◌≡◌, ◌≢◌, ◌+◌, ◌<◌, ◌==◌, ◌∷◌, ◌++◌}
-use Rattle.prost_reflect_pool.proofs.Common.{ℕ, zero, suc, Bool, true, false, cond, List, [], length, Option, Some, None, refl, sym, ap, ◌∙◌, arith, unwrap_or, true≢false, slice_get, find, position_from, bytes_eq, false_from_ne_true, append_cancel_right, same_Some, slice_get_within, FieldDescriptorProto, passes, ExtensionRow, DefinitionRow, FlatRows, flattened, places_from, linked_extension, links_of, is_place, extended_place, linked_field, linked_rows, bracketed, fields_at, place_of, row_of, FieldRow, TableRows, marked_extension, fields_ascend, full_name_or_empty, extension_name, extension_place, extension_where, files_of, pool_rows, pool_catalog, LinkedPool}
+use Rattle.prost_reflect_pool.proofs.Common.{ℕ, zero, suc, Bool, true, false, cond, List, [], length, Option, Some, None, refl, sym, ap, ◌∙◌, arith, unwrap_or, true≢false, slice_get, find, position_from, bytes_eq, false_from_ne_true, append_cancel_right, same_Some, FieldDescriptorProto, passes, ExtensionRow, DefinitionRow, FlatRows, flattened, places_from, linked_extension, links_of, is_place, extended_place, linked_field, linked_rows, bracketed, fields_at, place_of, row_of, FieldRow, TableRows, marked_extension, fields_ascend, full_name_or_empty, extension_name, extension_place, extension_where, files_of, pool_rows, pool_catalog, LinkedPool}
 use Rattle.std.specs.Bool.{one_answer}
 use Rattle.std.specs.Cmp.{unsigned_Decides}
 use Rattle.std.proofs.lemmas.Iterator.Adapters.{position_from-zero}
@@ -182,10 +182,6 @@ named_at pool name q e =
 
 name_of_member : (pool : LinkedPool) (name : List ℕ) (d : DefinitionRow FieldDescriptorProto) → bytes_eq (row_for pool d).id.full_name name ≡ true → d.full_name ≡ name
 name_of_member pool name d is = sym (linked_name (links_of (flat_of pool)) d) ∙ (bytes_eq-Decides (row_for pool d).id.full_name name).0 is
-
--- The place is one of the catalog.
-pub named_within : (pool : LinkedPool) (name : List ℕ) (q : ℕ) → extension_place (pool_rows pool) (pool_catalog pool) name ≡ Some q → q < length (pool_catalog pool).extensions
-named_within pool name q e = let n = named_at pool name q e in slice_get_within (pool_catalog pool).extensions q n.extension n.at
 
 -- The extension of the name is one of the message type.
 pub named_here : (pool : LinkedPool) (T : ℕ) (name : List ℕ) (q : ℕ) (x : ExtensionRow) → T < length (pool_rows pool).messages → extension_place (pool_rows pool) (pool_catalog pool) name ≡ Some q → slice_get (pool_catalog pool).extensions q ≡ Some x → x.message ≡ T

@@ -1,6 +1,6 @@
 -- What a binary search finds among places that compare in their order with what is looked for.
 use Rattle.std.specs.Prelude.{◌≡◌, ◌+◌, ◌<◌, ◌≤◌, ◌∷◌}
-use Rattle.prost_reflect_pool.proofs.Common.{ℕ, zero, suc, Bool, true, false, cond, List, [], length, get_or, drop, Some, None, refl, sym, ap, ◌∙◌, arith, true≢false, drop-cons, add-one, find, is_lt, is_eq, ordering_index, Ordering, IsNonDecreasingBy}
+use Rattle.prost_reflect_pool.proofs.Common.{ℕ, zero, suc, true, false, cond, List, [], length, get_or, Some, None, refl, sym, ap, ◌∙◌, arith, true≢false, find, is_lt, is_eq, ordering_index, Ordering, IsNonDecreasingBy}
 use Rattle.std.specs.declared.cmp.Ordering.TheVariants.{Less, Equal, Greater}
 
 -- What stands before low compares as less, and what stands from high on does not.
@@ -32,9 +32,6 @@ greater_differs : (r : Ordering) → 1 < ordering_index r → is_eq r ≡ false
 greater_differs Less h = refl
 greater_differs Equal h = absurd (omega arith)
 greater_differs Greater h = refl
-
-pub at_start : (o : ℕ → Ordering) (xs : List ℕ) → Between o xs 0 (length xs)
-at_start o xs = record { below = λ k h. absurd (omega arith); above = λ k h more. absurd (omega arith) }
 
 pub upper_half : (o : ℕ → Ordering) (xs : List ℕ) (low high middle : ℕ) → IsNonDecreasingBy (λ p. ordering_index (o p)) xs → Between o xs low high → middle < length xs → is_lt (o (get_or xs middle 0)) ≡ true → Between o xs (middle + 1) high
 upper_half o xs low high middle up b h e = record {
@@ -79,13 +76,3 @@ differs o xs low high x up b ends h is e =
     (λ higher. greater_differs (o (get_or xs k 0)) (let le : ordering_index (o (get_or xs low 0)) ≤ ordering_index (o (get_or xs k 0)) = up low k 0 higher less in omega arith))))
 
 -- ONE AFTER ANOTHER
-
-find_from : {X : Type 0} (p : X → Bool) (xs : List X) (i : ℕ) (d : X) → i < length xs → find p (drop i xs) ≡ cond (p (get_or xs i d)) (Some (get_or xs i d)) (find p (drop (i + 1) xs))
-find_from p xs i d h = rw (drop-cons xs i d h, add-one i) refl
-
--- An item that passes is found, and one that does not is left behind.
-pub find_here : {X : Type 0} (p : X → Bool) (xs : List X) (i : ℕ) (d : X) → i < length xs → p (get_or xs i d) ≡ true → find p (drop i xs) ≡ Some (get_or xs i d)
-find_here p xs i d h passes = find_from p xs i d h ∙ ap (λ b. cond b (Some (get_or xs i d)) (find p (drop (i + 1) xs))) passes
-
-pub find_left : {X : Type 0} (p : X → Bool) (xs : List X) (i : ℕ) (d : X) → i < length xs → p (get_or xs i d) ≡ false → find p (drop i xs) ≡ find p (drop (i + 1) xs)
-find_left p xs i d h fails = find_from p xs i d h ∙ ap (λ b. cond b (Some (get_or xs i d)) (find p (drop (i + 1) xs))) fails

@@ -1,7 +1,7 @@
 -- What message types name.
-use Rattle.std.specs.Prelude.{◌≡◌, ℕ, List, Option, slice_get}
+use Rattle.std.specs.Prelude.{◌≡◌, ℕ, List}
 use Rattle.prost_reflect_wire.specs.Schema.{Schema}
-use Rattle.prost_reflect_tables.specs.Rows.{FieldRow, MessageRow}
+use Rattle.prost_reflect_tables.specs.Rows.{FieldRow}
 use Rattle.prost_reflect_tables.specs.Places.{fields_at}
 use Rattle.prost_reflect_tables.specs.Shown.{schema_from}
 use Rattle.prost_reflect_pool.specs.SharedPools.{pool_rows, pool_contents}
@@ -13,9 +13,6 @@ schema_at message = schema_from (pool_rows message.pool)
 
 abbrev pub type_at : PooledType → ℕ
 type_at message = message.index
-
-abbrev pub message_row_at : PooledType → Option MessageRow
-message_row_at message = slice_get (pool_rows message.pool).messages message.index
 
 -- The rows of the message type's fields and extensions.
 abbrev pub fields_of : PooledType → List FieldRow

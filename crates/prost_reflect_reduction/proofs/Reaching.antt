@@ -15,12 +15,6 @@ all_apart test (x ∷ xs) ys a =
     let (l, r) = all_apart test xs ys t in
     (and_from _ _ h l, r)
 
-all_flat : {A B : Type 0} (given : A → Bool) (test : B → Bool) (f : A → List B) (xs : List A) → ((x : A) → given x ≡ true → list_all test (f x) ≡ true) → list_all given xs ≡ true → list_all test (flat_map f xs) ≡ true
-all_flat given test f [] h a = refl
-all_flat given test f (x ∷ xs) h a =
-    let (one, more) = and_parts (given x) (list_all given xs) a in
-    all_appended test (f x) (flat_map f xs) (h x one) (all_flat given test f xs h more)
-
 -- kinds
 
 kind_split : (pairs : TypePairs) (k l : Kind) → same_kind pairs k l ≡ true → (kinds_alike k l ≡ true) × (all_held pairs (kinds_ask k l) ≡ true)

@@ -1,8 +1,7 @@
 -- What is written of a field of each kind.
-use Rattle.std.specs.Prelude.{◌≡◌, ◌-◌, ◌∷◌, ◌++◌}
-use Rattle.prost_reflect_types.proofs.Common.{ℕ, Bool, false, cond, ℤ, List, [], map, drop, Option, Some, None, String, string_bytes, Vec, refl, sym, ap, ◌∙◌, subst, append_assoc, Global, w64, cast_unsigned, Flat, Len, Var, record_at, spelled, I32, Text, FieldForm, Repeated, Content, Value, ScalarValue, MessageValue, values_from, present_list, value_payload, element_payloads, list_payloads, form_of, value_type_of, of_text, of_number, of_flag, of_bytes, of_texts, of_numbers, of_records, field_bytes, Adds, FieldKind, RecordType}
+use Rattle.std.specs.Prelude.{◌≡◌, ◌∷◌, ◌++◌}
+use Rattle.prost_reflect_types.proofs.Common.{ℕ, Bool, false, cond, ℤ, List, [], map, Option, Some, None, String, string_bytes, Vec, refl, sym, ap, ◌∙◌, subst, Global, w64, cast_unsigned, Flat, Len, Var, record_at, spelled, I32, Text, FieldForm, Repeated, Content, Value, ScalarValue, MessageValue, values_from, present_list, element_payloads, list_payloads, form_of, value_type_of, of_text, of_number, of_flag, of_bytes, of_texts, of_numbers, of_records, field_bytes, Adds, FieldKind, RecordType}
 use Rattle.prost_reflect_types.specs.declared.table.FieldKind.TheVariants as kinds
-use Rattle.prost_reflect_wire.proofs.WrittenRecords.{spelled_more}
 
 -- STEPS
 
@@ -12,9 +11,6 @@ module _ {A : Type 0} (added : A → A → List ℕ → Type 0) where
 
   pub adds_none : (old : A) (f : List ℕ) → f ≡ [] → Adds added old old f
   adds_none old f e = λ start done s. subst (λ (l : List ℕ). added start old (l ++ done)) (sym e) s
-
-  pub adds_both : (old mid new : A) (f h : List ℕ) → Adds added old mid f → Adds added mid new h → Adds added old new (h ++ f)
-  adds_both old mid new f h a b = λ start done s. subst (λ (l : List ℕ). added start new l) (sym (append_assoc h f done)) (b start (f ++ done) (a start done s))
 
 -- ONE VALUE
 
@@ -55,9 +51,6 @@ no_bytes n o is = ap (λ o. field_bytes n kinds.Bytes (of_bytes o)) is
 abbrev pub list_bytes : ℕ → FieldKind → List Value → List ℕ
 list_bytes n kind vs = spelled (map (record_at n) (element_payloads (value_type_of kind).kind (values_from vs)))
 
-abbrev pub element_bytes : ℕ → FieldKind → Value → List ℕ
-element_bytes n kind v = spelled (record_at n (value_payload (value_type_of kind).kind v) ∷ [])
-
 list_field : (n : ℕ) (kind : FieldKind) (vs : List Value) → form_of kind ≡ Repeated false → list_bytes n kind vs ≡ field_bytes n kind (present_list (values_from vs))
 unfolding field_bytes
 list_field n kind [] e = refl
@@ -78,12 +71,3 @@ map_twice f (x ∷ items) = ap (λ (vs : List Value). MessageValue (f x) ∷ vs)
 pub records_field : {E : Type 0} (n : ℕ) (t : RecordType) (f : E → Content) (items : List E) → list_bytes n (kinds.Records t) (map (λ x. MessageValue (f x)) items) ≡ field_bytes n (kinds.Records t) (of_records (map f items))
 unfolding of_records
 records_field n t f items = ap (list_bytes n (kinds.Records t)) (map_twice f items) ∙ list_field n (kinds.Records t) (map MessageValue (map f items)) refl
-
--- one element more, in front
-pub list_step : {A : Type 0} {E : Type 0} (added : A → A → List ℕ → Type 0) (start mid new : A) (n : ℕ) (kind : FieldKind) (f : E → Value) (items : List E) (i : ℕ) (item : E) → drop (i - 1) items ≡ item ∷ drop i items →
-    Adds added start mid (list_bytes n kind (map f (drop i items))) → Adds added mid new (element_bytes n kind (f item)) → Adds added start new (list_bytes n kind (map f (drop (i - 1) items)))
-list_step {E} added start mid new n kind f items i item cut a b =
-    adds_same added start new (element_bytes n kind (f item) ++ list_bytes n kind (map f (drop i items))) (list_bytes n kind (map f (drop (i - 1) items)))
-    (sym (spelled_more (record_at n (value_payload (value_type_of kind).kind (f item))) (map (record_at n) (element_payloads (value_type_of kind).kind (values_from (map f (drop i items))))))
-    ∙ ap (λ (l : List E). list_bytes n kind (map f l)) (sym cut))
-    (adds_both added start mid new _ _ a b)

@@ -32,9 +32,6 @@ pub record PackedSoFar (n : ℕ) (old new : List (ℕ × Found)) (body rest : Li
   pub front : PlainsFront wires.Varint plains body rest
   pub added : new ≡ old ++ under n (flat_map number_in_plain plains)
 
-pub packed_none : (n : ℕ) (old : List (ℕ × Found)) (body : List ℕ) → PackedSoFar n old old body body
-packed_none n old body = record { plains = []; front = refl; added = sym (append-nil old) }
-
 numbers_append : (ps : List Plain) (v : ℕ) → flat_map number_in_plain (ps ++ Var v ∷ []) ≡ flat_map number_in_plain ps ++ FoundNumber (low_i32 v) ∷ []
 numbers_append [] v = refl
 numbers_append (p ∷ ps) v = ap (λ l. number_in_plain p ++ l) (numbers_append ps v) ∙ sym (append_assoc (number_in_plain p) (flat_map number_in_plain ps) (FoundNumber (low_i32 v) ∷ []))

@@ -1,19 +1,12 @@
 -- Records are written one in front of another.
 use Rattle.std.specs.Prelude.{◌≡◌, ◌<◌, ◌^◌, ◌∷◌, ◌++◌}
-use Rattle.prost_reflect_wire.proofs.Common.{ℕ, true, List, [], length, Result, Ok, Err, refl, sym, ap, ◌∙◌, append_assoc, append-nil, OnOk, eq-eqb, lt-ltb, and_from, are_bytes, EncodeError, record_at, Record, Payload, Fix64, Len, Fix32, Flat, Group, body_of, payload_wire, short_key, short_payload, spelled, valid, payload_valid, RecordFront}
+use Rattle.prost_reflect_wire.proofs.Common.{ℕ, true, List, [], length, Result, Ok, Err, refl, OnOk, eq-eqb, lt-ltb, and_from, are_bytes, EncodeError, Record, Fix64, Len, Fix32, Flat, body_of, spelled, valid, payload_valid, RecordFront}
 use Rattle.prost_reflect_wire.proofs.Shortest.{short_spells}
 
 abbrev Answer : Type 0
 Answer = Result (Unit {0}) EncodeError
 
 -- RECORDS
-
-pub spelled_first : (n : ℕ) (p : Payload) (rs : List Record) → spelled (record_at n p ∷ rs) ≡ (short_key n (payload_wire p) ++ short_payload n p) ++ spelled rs
-spelled_first n (Flat p) rs = sym (append_assoc (short_key n (payload_wire (Flat p))) (short_payload n (Flat p)) (spelled rs))
-spelled_first n (Group inside) rs = simp append_assoc
-
-pub spelled_more : (r : Record) (rs : List Record) → spelled (r ∷ rs) ≡ spelled (r ∷ []) ++ spelled rs
-spelled_more r rs = spelled_first r.number r.payload rs ∙ ap (λ (l : List ℕ). l ++ spelled rs) (sym (spelled_first r.number r.payload [] ∙ append-nil (short_key r.number (payload_wire r.payload) ++ short_payload r.number r.payload)))
 
 pub fixed64_valid : (bytes : List ℕ) → length bytes ≡ 8 → are_bytes bytes ≡ true → payload_valid (Flat (Fix64 bytes)) ≡ true
 fixed64_valid bytes len small = and_from _ _ (eq-eqb (length bytes) 8 len) small

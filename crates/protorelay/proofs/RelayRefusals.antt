@@ -55,19 +55,6 @@ module _ (set name digits : List ℕ) (pool : LinkedPool) (made : IsPoolOfSet se
   relay_refused (hex_relays.Relay (relays.Encode encode_errors.OutOfMemory)) r = inl tt
   relay_refused hex_relays.OutOfMemory r = inl tt
 
--- no pool is made of the set
-pub pool_refused : (set name digits : List ℕ) (e : Refusal) → RefusesPool set e → RefusesRelay set name digits e
-pool_refused set name digits (refusals.Set e) is = inl is
-pool_refused set name digits (refusals.Pool e) is = inl is
-pool_refused set name digits refusals.Name is = absurd is
-pool_refused set name digits refusals.Hex is = inl is
-pool_refused set name digits refusals.Number is = absurd is
-pool_refused set name digits refusals.Value is = absurd is
-pool_refused set name digits refusals.ValueUnread is = absurd is
-pool_refused set name digits (refusals.Decode e) is = absurd is
-pool_refused set name digits (refusals.Encode e) is = absurd is
-pool_refused set name digits refusals.Memory is = inl tt
-
 -- no message type has the name
 pub name_refused : (set name digits : List ℕ) (pool : LinkedPool) → IsPoolOfSet set pool → (e : Refusal) → ((e ≡ refusals.Name) × (message_place (pool_rows pool) name ≡ None)) ⊎ (e ≡ refusals.Memory) → RefusesRelay set name digits e
 name_refused set name digits pool made e (inl (is, none)) = subst (RefusesRelay set name digits) (sym is) (inr (record { pool = pool; made = made; refuses = none }))

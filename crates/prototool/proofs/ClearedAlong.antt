@@ -116,14 +116,6 @@ kept_along (n ∷ []) (ContentOf schema T es) checked w = kept_after_clear (Cont
 kept_along (n ∷ m ∷ path) (ContentOf schema T es) checked w =
     ap (ContentOf schema T) (entries_by schema (cleared_along (m ∷ path)) (λ d same v. kept_along (m ∷ path) d (ap schema_valid same ∙ checked) v) n (known schema T) es (entries_sound schema T es w))
 
--- the same along each of the paths
-pub all_hold : (paths : List (List ℕ)) (c : Content) → schema_valid (schema_of c) ≡ true → WellStored c → Holds c (cleared_all paths c)
-all_hold [] c checked w = record { schema = refl; type = refl; sound = w }
-all_hold (path ∷ paths) c checked w =
-    let one = cleared_holds path c checked w in
-    let more = all_hold paths (cleared_along path c) (ap schema_valid one.schema ∙ checked) one.sound in
-    record { schema = more.schema ∙ one.schema; type = more.type ∙ one.type; sound = more.sound }
-
 pub kept_all : (paths : List (List ℕ)) (c : Content) → schema_valid (schema_of c) ≡ true → WellStored c → kept (cleared_all paths c) ≡ cleared_all paths (kept c)
 kept_all [] c checked w = refl
 kept_all (path ∷ paths) c checked w =

@@ -114,36 +114,6 @@ through_field m d n rest lent after had stored inside set = go (is_field_number 
 
 -- VALUES
 
--- what is no list and no map is a message or has none
-abbrev Plain : (Content → Content) → contents.Value → Type 0
-Plain F v = (HoldsWell v → IsWell v) × (in_message v F ≡ in_messages F v)
-
-plain_view : (F : Content → Content) (v : Value) → list_in (out-Value v) ≡ None → pairs_in (out-Value v) ≡ None → Plain F (value_of v)
-plain_view F v list pairs = subst (Plain F) (sym (fold_out-Value contents.Value Content value_step message_step v)) (go (out-Value v) list pairs)
-  where
-    go : (x : Value-F Value DynamicMessage) → list_in x ≡ None → pairs_in x ≡ None → Plain F (value_step (map-Value Value DynamicMessage contents.Value Content value_of content_of x))
-    go (Value-F.Bool b) l p = (λ h. h, refl)
-    go (Value-F.I32 z) l p = (λ h. h, refl)
-    go (Value-F.I64 z) l p = (λ h. h, refl)
-    go (Value-F.U32 n) l p = (λ h. h, refl)
-    go (Value-F.U64 n) l p = (λ h. h, refl)
-    go (Value-F.F32 n) l p = (λ h. h, refl)
-    go (Value-F.F64 n) l p = (λ h. h, refl)
-    go (Value-F.String text) l p = (λ h. h, refl)
-    go (Value-F.Bytes bytes) l p = (λ h. h, refl)
-    go (Value-F.EnumNumber z) l p = (λ h. h, refl)
-    go (Value-F.Message m) l p = (λ h. h, refl)
-    go (Value-F.List vs) l p = cc
-    go (Value-F.Map m) l p = cc
-
-pub plain_inside : (path : List ℕ) (old new : Value) → list_in (out-Value old) ≡ None → pairs_in (out-Value old) ≡ None → ClearsElement path (value_of old) (value_of new) → ClearsInside path (value_of old) (value_of new)
-plain_inside path old new list pairs s = let (well, same) = plain_view (cleared_along path) old list pairs in record { cleared = λ h. s.cleared (well h) ∙ same }
-
-pub list_inside : (path : List ℕ) (old : Value) (es : List Value) (vs : Vec Value Global) → list_in (out-Value old) ≡ Some es → ClearsElements path (values_from (map value_of es)) (values_from (map value_of vs.items)) → ClearsInside path (value_of old) (value_of (values.List vs))
-list_inside path old es vs e s =
-    let is = list_viewed old es e in
-    record { cleared = λ h. value_of_list vs ∙ ap ListValue (s.cleared (subst HoldsWell is h)) ∙ ap (in_messages (cleared_along path)) (sym is) }
-
 map_viewed : (v : Value) (es : List (MapKey × Value)) → pairs_in (out-Value v) ≡ Some es → value_of v ≡ MapValue (pairs_shown es)
 map_viewed v es h = fold_out-Value contents.Value Content value_step message_step v ∙ go (out-Value v) h
   where
@@ -167,40 +137,11 @@ map_inside path old es m e s =
     let is = map_viewed old es e in
     record { cleared = λ h. value_of_map m ∙ ap MapValue (s.cleared (subst HoldsWell is h)) ∙ ap (in_messages (cleared_along path)) (sym is) }
 
--- an element that is a message
-pub message_element : (path : List ℕ) (old : Value) (before after : DynamicMessage) → message_in (out-Value old) ≡ Some before → ClearsAlong path (content_of before) (content_of after) → ClearsElement path (value_of old) (value_of (values.Message after))
-message_element path old before after e s =
-    let is = held_is old before e in
-    record { cleared = λ h. value_of_message after ∙ ap MessageValue (s.cleared (subst IsWell is h)) ∙ ap (λ v. in_message v (cleared_along path)) (sym is) }
-
--- one that is none
-pub other_element : (path : List ℕ) (v : Value) → message_in (out-Value v) ≡ None → ClearsElement path (value_of v) (value_of v)
-other_element path v none = record { cleared = λ h. sym (subst (λ w. in_message w (cleared_along path) ≡ w) (sym (fold_out-Value contents.Value Content value_step message_step v)) (go (out-Value v) none)) }
-  where
-    go : (x : Value-F Value DynamicMessage) → message_in x ≡ None → in_message (value_step (map-Value Value DynamicMessage contents.Value Content value_of content_of x)) (cleared_along path) ≡ value_step (map-Value Value DynamicMessage contents.Value Content value_of content_of x)
-    go (Value-F.Bool b) n = refl
-    go (Value-F.I32 z) n = refl
-    go (Value-F.I64 z) n = refl
-    go (Value-F.U32 z) n = refl
-    go (Value-F.U64 z) n = refl
-    go (Value-F.F32 z) n = refl
-    go (Value-F.F64 z) n = refl
-    go (Value-F.String text) n = refl
-    go (Value-F.Bytes bytes) n = refl
-    go (Value-F.EnumNumber z) n = refl
-    go (Value-F.Message m) n = cc
-    go (Value-F.List vs) n = refl
-    go (Value-F.Map m) n = refl
-
 -- THE EXTENSION OF A NUMBER
 
 module _ (t : PooledType) (d : MessageDescriptor) (n : ℕ) (same : NamesSame d t) where
   abbrev Found : Option ExtensionDescriptor → Type 0
   Found found = option_map (λ (x : ExtensionDescriptor). x.index) found ≡ extension_where d.pool.inner.value d.index (λ f. f.number == n)
-
-  pub extension_owned : (found : Option ExtensionDescriptor) → Found found → IfSome found (Extends d) → IfSome found (IsOwnExtension t)
-  extension_owned None e extends = tt
-  extension_owned (Some x) e extends = (extension_own t d x n same extends (sym e)).0
 
   pub extension_numbered : (found : Option ExtensionDescriptor) → Found found → IfSome found (Extends d) → IfSome found (λ x. extension_number x ≡ n)
   extension_numbered None e extends = tt

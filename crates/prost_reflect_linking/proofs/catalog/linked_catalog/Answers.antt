@@ -1,4 +1,4 @@
-use Rattle.prost_reflect_linking.proofs.Common.{sym, ap, ◌∙◌, map, length, rules, length-map, links_of, each_from, linked_lists, TableRows, List, same_catalog, linked_length}
+use Rattle.prost_reflect_linking.proofs.Common.{sym, ap, ◌∙◌, map, length, length-map, each_from, linked_lists, TableRows, List, same_catalog, linked_length}
 use Rattle.prost_reflect_tables.specs.Rows.{message_row}
 use Rattle.prost_reflect_tables.specs.Schema.{rows_of}
 use Rattle.prost_reflect_tables.specs.declared.tables.MessageTable.{MessageTable}

@@ -1,6 +1,6 @@
 use Rattle.std.specs.Prelude.{◌≡◌}
 use Rattle.std.specs.List.{zip}
-use Rattle.prost_reflect_linking.proofs.Common.{true, List, Vec, Global, ℕ, arith, ap, sym, ◌∙◌, map, length, length-map, FieldRow, FlatMessageRow, definition_row, message_row, enum_row, flat_rows, links_of, linked_enum, grouped, empty_lists, list_rows, rows_linked}
+use Rattle.prost_reflect_linking.proofs.Common.{true, List, ℕ, arith, ap, sym, ◌∙◌, map, length, length-map, FieldRow, definition_row, message_row, enum_row, flat_rows, links_of, linked_enum, grouped, empty_lists, list_rows, rows_linked}
 use Rattle.prost_reflect_linking.proofs.Paired.{extendee_of, pairs_of, empty_rows, extensions_long, meant_each, meant_lists, all_linked}
 use Rattle.prost_reflect_linking.specs.Meanings.{MeaningRow, field_meant, meaning_lists, meaning_row, messages_meant}
 use Rattle.prost_reflect_tables.specs.declared.build.flatten.Definition.{Definition}

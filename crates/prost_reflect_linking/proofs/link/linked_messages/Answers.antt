@@ -1,7 +1,7 @@
-use Rattle.std.specs.Prelude.{◌≡◌, ◌+◌, ◌<◌, ◌∷◌, ◌++◌}
+use Rattle.std.specs.Prelude.{◌≡◌, ◌<◌, ◌∷◌, ◌++◌}
 use Rattle.std.proofs.Common.{⊎_elim, append-nil}
 use Rattle.std.proofs.lemmas.List.{nil_from_length}
-use Rattle.prost_reflect_linking.proofs.Common.{false, List, [], Vec, Global, length, map, drop, get_or, arith, sym, ap, ◌∙◌, definition_row, field_row, list_rows}
+use Rattle.prost_reflect_linking.proofs.Common.{false, List, Vec, Global, length, map, drop, get_or, arith, sym, ap, ◌∙◌, definition_row, field_row, list_rows}
 use Rattle.prost_reflect_linking.proofs.Paired.{first_left, message_more}
 use Rattle.prost_reflect_linking.specs.Meanings.{all_meant, meaning_lists, meaning_row, messages_meant}
 use Rattle.prost_reflect_linking.specs.declared.meaning.Meaning.{Meaning}
