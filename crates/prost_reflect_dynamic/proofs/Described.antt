@@ -1,6 +1,6 @@
 -- The known fields of a descriptor's message type, and its schema.
 use Rattle.std.specs.Prelude.{◌≡◌, ◌<◌}
-use Rattle.prost_reflect_dynamic.proofs.Common.{ℕ, true, length, map, Some, ap, subst, ltb-true, and_parts, slice_get, option_map, length-map, Kind, ScalarOf, MessageOf, GroupOf, Field, known, field_of, kind_valid, field_valid, schema_valid, message_of_kind, known_valid, found_valid, checked_field, FieldRow, TableRows, is_linked, row_of, schema_from, schema_field, schema_is_valid, known_rows, field_of_number, known_row, pool_rows, schema_at, type_at, fields_of, SameMessage, PooledType}
+use Rattle.prost_reflect_dynamic.proofs.Common.{ℕ, true, length, Some, subst, ltb-true, and_parts, slice_get, option_map, length-map, Kind, ScalarOf, MessageOf, GroupOf, Field, known, field_of, kind_valid, field_valid, schema_valid, message_of_kind, known_valid, found_valid, checked_field, FieldRow, TableRows, is_linked, row_of, schema_from, schema_field, schema_is_valid, field_of_number, known_row, pool_rows, schema_at, type_at, fields_of, PooledType}
 
 -- The schema is one of a checked pool, and has the type.
 pub schema_at_valid : (m : PooledType) → schema_valid (schema_at m) ≡ true

@@ -1,6 +1,6 @@
 -- What clearing a number and setting a value keep of a content.
 use Rattle.std.specs.Prelude.{◌≡◌, ◌≤◌}
-use Rattle.prost_reflect_dynamic.proofs.Common.{ℕ, Bool, true, false, not, cond, nat_eq, List, Option, Some, None, refl, ap, sym, subst, ◌∙◌, true≢false, arith, is_some, and_parts, and_from, eq-eqb, Field, known, field_of, passes, Content, ContentOf, Entries, Slot, value_at, slot_at, insert_number, numbers_in, changed, schema_of, type_of, entries_of, kept, kept_entries, kind_for, fit_test, value_passes, value_valid, encodable, ValueStored, ValueTyped, WellStored, with_value, cleared, set_field, with_field_value, Holds, with_stored, field_number, table_passes, OptionPasses, SlotPasses, passes_slots, stored_passes, value_set, value_cleared, cleared_if, values_taken, in_entries, Arranged, without_unknown, has_at, saying, says_nothing, stored_at, takes_at, all_typed, IsWhole, held_set, Removes, Sets, StaysTyped, typed_at, message_stored, value_stored, value_of, content_of, message_type_of, stored_in, entries_from, DynamicMessage, size-DynamicMessage, IsAscending, known_of, schema_at, type_at, PooledType}
+use Rattle.prost_reflect_dynamic.proofs.Common.{ℕ, Bool, true, false, not, cond, nat_eq, List, Option, Some, None, refl, ap, sym, subst, ◌∙◌, true≢false, is_some, and_parts, and_from, eq-eqb, Field, known, field_of, passes, Content, ContentOf, Entries, Slot, value_at, slot_at, insert_number, numbers_in, changed, schema_of, type_of, entries_of, kept, kept_entries, kind_for, fit_test, value_passes, value_valid, encodable, ValueStored, ValueTyped, WellStored, with_value, cleared, set_field, with_field_value, Holds, with_stored, field_number, table_passes, OptionPasses, SlotPasses, passes_slots, stored_passes, value_set, value_cleared, cleared_if, values_taken, in_entries, Arranged, without_unknown, has_at, saying, says_nothing, stored_at, takes_at, all_typed, IsWhole, held_set, Removes, Sets, StaysTyped, typed_at, message_stored, value_stored, value_of, content_of, message_type_of, stored_in, entries_from, DynamicMessage, size-DynamicMessage, IsAscending, known_of, schema_at, type_at, PooledType}
 use Rattle.prost_reflect_wire.specs.Content.{Value}
 use Rattle.prost_reflect_wire.specs.Typing.{entries_pass}
 use Rattle.prost_reflect_dynamic.specs.declared.value.Value as values

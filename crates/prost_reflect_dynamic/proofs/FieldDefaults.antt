@@ -1,11 +1,11 @@
 -- What a field has where nothing is stored, by its row.
 use Rattle.std.specs.Prelude.{◌≡◌, ◌<◌, ◌↔◌}
-use Rattle.prost_reflect_dynamic.proofs.Common.{ℕ, Bool, true, false, cond, IsTrue, Option, Some, None, length, refl, ap, sym, ◌∙◌, subst, true≢false, ltb-true, and_parts, length-map, IsSome, Global, Rc, Scalar, ValueType, FieldForm, Singular, Repeated, MapFrom, Schema, kind_valid, field_valid, is_map, is_singular, ScalarValue, MessageValue, ListValue, MapValue, NoValues, Item, NoPairs, Pair, empty, default_of, default_value, is_empty_value, checked_field, Cardinality, TableKind, is_repeated, FieldRow, MessageRow, TableRows, schema_from, schema_field, schema_kind, own_type, form_of, map_entry, pool_rows, LinkedPool, row_default, single_place, place_named, IsDefaultBy, IsEmptyOf, IsRowDefault, plain_kind, message_in, value_of}
+use Rattle.prost_reflect_dynamic.proofs.Common.{ℕ, Bool, true, false, cond, IsTrue, Option, Some, None, length, refl, ap, sym, ◌∙◌, subst, true≢false, ltb-true, and_parts, length-map, IsSome, Global, Rc, ValueType, FieldForm, Singular, Repeated, MapFrom, Schema, kind_valid, field_valid, is_singular, ScalarValue, MessageValue, ListValue, MapValue, NoValues, Item, NoPairs, Pair, default_of, default_value, is_empty_value, checked_field, Cardinality, TableKind, is_repeated, FieldRow, MessageRow, TableRows, schema_from, schema_field, schema_kind, own_type, form_of, map_entry, pool_rows, LinkedPool, row_default, single_place, place_named, IsDefaultBy, IsRowDefault, plain_kind, value_of}
 use Rattle.prost_reflect_wire.specs.Content.{Value}
 use Rattle.prost_reflect_tables.specs.declared.tables.Cardinality.TheVariants.{Optional, Required, Repeated as RepeatedLabel}
 use Rattle.prost_reflect_tables.specs.declared.tables.TableKind.TheVariants as kinds
 pub use Rattle.prost_reflect_dynamic.specs.RowLawProofs.{row_checked, default_fits}
-use Rattle.prost_reflect_dynamic.specs.declared.value.Value.{Value as Owned, out-Value}
+use Rattle.prost_reflect_dynamic.specs.declared.value.Value.{Value as Owned}
 use Rattle.prost_reflect_dynamic.proofs.PlainKinds.{single_row, own_of}
 
 -- LISTS AND MAPS

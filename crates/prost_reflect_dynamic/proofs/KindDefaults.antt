@@ -1,11 +1,10 @@
 -- The default of a kind is one of its values.
 use Rattle.std.specs.Prelude.{◌≡◌, ◌||◌, ◌∷◌}
-use Rattle.prost_reflect_dynamic.proofs.Common.{ℤ, Bool, true, false, cond, List, [], length, map, nat_lt, IsTrue, Option, Some, None, refl, ap, sym, ◌∙◌, subst, true≢false, IsSome, IsSomeAnd, is_utf8, chars, and_from, Decides-int_eq, int_eq, list_any, Scalar, Closed, Open, kind_default, in_i32, ScalarOf, ScalarValue, kind_takes, EnumRow, EnumValueRow, enum_kind, first_number, first_of, numbers_or_none, values_or_none, pool_rows, kind_named, table_kind, plain_kind, IsBlank, IsScalar, key_among}
+use Rattle.prost_reflect_dynamic.proofs.Common.{ℤ, Bool, true, false, cond, List, [], length, map, nat_lt, IsTrue, Option, Some, None, refl, ap, sym, ◌∙◌, true≢false, IsSome, IsSomeAnd, is_utf8, chars, and_from, Decides-int_eq, int_eq, list_any, Scalar, Closed, Open, kind_default, in_i32, ScalarOf, ScalarValue, kind_takes, EnumRow, EnumValueRow, enum_kind, first_number, first_of, numbers_or_none, values_or_none, pool_rows, kind_named, table_kind, plain_kind, IsScalar}
 use Rattle.prost_reflect_wire.specs.Scalar as scalars
 use Rattle.prost_reflect_wire.specs.Scalar.{is_declared}
 use Rattle.prost_reflect_dynamic.specs.NamedDefaults.{default_named}
 use Rattle.prost_reflect_dynamic.specs.NamedEnums.{enum_row_at}
-use Rattle.prost_reflect_dynamic.specs.NamedKinds.{is_key_kind}
 use Rattle.prost_reflect_dynamic.specs.declared.descriptor.enums.EnumDescriptor.{EnumDescriptor}
 use Rattle.prost_reflect_dynamic.specs.declared.descriptor.kind.Kind.{Kind}
 use Rattle.prost_reflect_dynamic.specs.declared.descriptor.kind.Kind.TheVariants as kinds

@@ -1,6 +1,6 @@
 -- A value set at a path through the message that a lent value holds.
 use Rattle.std.specs.Prelude.{◌≡◌, ◌∷◌}
-use Rattle.prost_reflect_dynamic.proofs.Common.{ℕ, true, false, List, [], length, nat_eq, Option, Some, None, ap, sym, ◌∙◌, subst, true≢false, unwrap_or, IfSome, is_some, Singular, Field, known, field_of, schema_valid, Content, ContentOf, MessageValue, empty, schema_of, type_of, entries_of, value_at, WellStored, default_value, message_of_kind, PathTo, known_differ, Nested, nested_sound, schema_at, known_of, is_known, IsStoredOr, IsLentOf, value_set, IsSetAt, HeldPath, SetInHeld, message_in, value_of, content_of, message_type_of, Value, out-Value, DynamicMessage}
+use Rattle.prost_reflect_dynamic.proofs.Common.{ℕ, true, false, List, [], length, nat_eq, Option, Some, None, ap, sym, ◌∙◌, subst, true≢false, unwrap_or, IfSome, Singular, Field, known, field_of, schema_valid, Content, ContentOf, MessageValue, empty, schema_of, type_of, entries_of, value_at, WellStored, default_value, message_of_kind, PathTo, known_differ, Nested, nested_sound, schema_at, known_of, IsStoredOr, IsLentOf, value_set, IsSetAt, HeldPath, SetInHeld, message_in, value_of, content_of, message_type_of, Value, out-Value, DynamicMessage}
 use Rattle.prost_reflect_wire.specs.Content as contents
 use Rattle.prost_reflect_dynamic.proofs.Merging.{known_in, valid_in}
 use Rattle.prost_reflect_dynamic.proofs.NestedReads.{schema_in, held_is, held_of}

@@ -1,8 +1,8 @@
 -- Elements of lists, read and put behind others.
-use Rattle.std.specs.Prelude.{◌≡◌, ◌≢◌, ◌&&◌, ◌∷◌, ◌++◌}
-use Rattle.prost_reflect_dynamic.proofs.Common.{ℕ, true, false, List, [], map, Option, Some, None, refl, sym, ap, ◌∙◌, subst, IsSomeAnd, WireType, DecodeError, DelimitedFront, PlainFault, ScalarKind, kind_wire, is_packable, ScalarValue, same_wire, ScalarRead, ScalarFault, map-append, TableKind, Value, value_of, plain_kind, HasWire, ReadsScalar, RefusesScalar, AddsPacked, RefusesPacked, AddsElements, RefusesElements}
+use Rattle.std.specs.Prelude.{◌≡◌, ◌≢◌, ◌∷◌, ◌++◌}
+use Rattle.prost_reflect_dynamic.proofs.Common.{ℕ, true, List, [], map, Some, sym, ap, ◌∙◌, subst, IsSomeAnd, WireType, DecodeError, DelimitedFront, ScalarKind, kind_wire, is_packable, ScalarValue, ScalarRead, ScalarFault, map-append, TableKind, Value, value_of, plain_kind, HasWire, ReadsScalar, RefusesScalar, AddsPacked, RefusesPacked, AddsElements, RefusesElements}
 use Rattle.prost_reflect_wire.specs.declared.key.WireType.TheVariants as wires
-use Rattle.prost_reflect_laws.proofs.PackedElements.{ElementsSoFar, elements_more, elements_done, elements_fault, packed_read, single_read, packed_refused, delimited_refused, single_refused}
+use Rattle.prost_reflect_laws.proofs.PackedElements.{ElementsSoFar, elements_more, elements_done, elements_fault, packed_read, single_read, packed_refused}
 use Rattle.prost_reflect_dynamic.proofs.Merging.{same_kind}
 
 -- PACKED

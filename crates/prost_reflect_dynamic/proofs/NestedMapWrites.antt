@@ -1,13 +1,13 @@
 -- What is written of a map of messages.
 use Rattle.std.specs.Prelude.{◌≡◌, ◌≤◌, ◌&&◌, ◌∷◌, ◌++◌}
-use Rattle.prost_reflect_dynamic.proofs.Common.{ℕ, true, false, List, [], map, Some, refl, sym, ap, ap₂, ◌∙◌, subst, append-nil, true≢false, arith, BTreeMap, and_parts, Len, record_at, short_key, short_plain, spelled, Scalar, scalar_valid, MessageOf, ValueType, MapFrom, Field, field_of, passes, Content, ScalarValue, MessageValue, ListValue, MapValue, Pair, message_payload, records, entry_record, pair_payloads, fit_test, kind_takes, element_valid, pairs_valid, value_valid, value_passes, pairs_pass, kept, kept_pairs, value_bytes, TableKind, FieldRow, EnumRow, own_type, schema_field, PooledType, MapKey, Value, pairs_shown, names_message, ValueWritable, nested_bytes, known_of, ElementWritable, map_parts, IsMap, AreEntries, nested_entry_bytes, nested_pairs_bytes, NestedMapOfRows, pool_rows, TakesScalar, key_of, value_of}
+use Rattle.prost_reflect_dynamic.proofs.Common.{ℕ, true, false, List, [], map, Some, refl, sym, ap, ap₂, ◌∙◌, subst, append-nil, true≢false, arith, BTreeMap, and_parts, Len, record_at, short_key, short_plain, spelled, Scalar, scalar_valid, MessageOf, ValueType, MapFrom, Field, field_of, passes, Content, ScalarValue, MessageValue, ListValue, MapValue, Pair, message_payload, records, entry_record, pair_payloads, fit_test, kind_takes, element_valid, pairs_valid, value_valid, value_passes, pairs_pass, kept, kept_pairs, value_bytes, TableKind, FieldRow, EnumRow, own_type, schema_field, PooledType, MapKey, Value, pairs_shown, names_message, ValueWritable, nested_bytes, known_of, ElementWritable, map_parts, AreEntries, nested_entry_bytes, nested_pairs_bytes, NestedMapOfRows, pool_rows, TakesScalar, key_of, value_of}
 use denote.Param.Weighed.{most}
 use Rattle.prost_reflect_wire.specs.declared.key.WireType.TheVariants as wires
 use Rattle.prost_reflect_wire.specs.Content as contents
 use Rattle.prost_reflect_laws.proofs.MapWritten.{part_written, pair_front, map_kept_written}
 use Rattle.prost_reflect_tables.specs.declared.tables.TableKind.TheVariants as kinds
 use Rattle.prost_reflect_dynamic.specs.declared.value.Value as values
-use Rattle.prost_reflect_dynamic.proofs.MapRows.{shown_map, key_row, is_map_value}
+use Rattle.prost_reflect_dynamic.proofs.MapRows.{shown_map, key_row}
 use Rattle.prost_reflect_dynamic.proofs.NestedWrites.{kind_bytes_before}
 use Rattle.prost_reflect_dynamic.proofs.RepeatedRows.{map_message}
 use Rattle.prost_reflect_dynamic.proofs.Views.{value_of_map}

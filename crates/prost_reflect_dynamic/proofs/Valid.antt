@@ -1,6 +1,6 @@
 -- Which values a field takes, by its row.
 use Rattle.std.specs.Prelude.{◌≡◌, ◌&&◌, ◌∷◌}
-use Rattle.prost_reflect_dynamic.proofs.Common.{ℕ, suc, Bool, true, false, List, [], map, Option, Some, None, refl, ap, ap₂, sym, ◌∙◌, arith, true≢false, list_all, lt-ltb, and_from, are_bytes, Scalar, Kind, ValueType, FieldForm, MapFrom, ScalarValue, MessageValue, ListValue, MapValue, Values, NoValues, Item, Pairs, NoPairs, Pair, values_from, element_valid, elements_valid, kind_takes, pairs_valid, value_valid, Cardinality, TableKind, is_linked, is_repeated, FieldRow, EnumRow, MessageRow, TableRows, own_type, map_entry, schema_kind, value_type_of, form_of, schema_field, map_parts, value_of, key_of, pairs_from, MapKey, Value}
+use Rattle.prost_reflect_dynamic.proofs.Common.{ℕ, suc, Bool, true, false, List, [], map, Option, Some, None, refl, ap, ap₂, sym, ◌∙◌, arith, true≢false, list_all, lt-ltb, and_from, are_bytes, Scalar, Kind, ValueType, FieldForm, MapFrom, ScalarValue, MessageValue, ListValue, MapValue, Values, NoValues, Item, Pairs, NoPairs, Pair, values_from, element_valid, elements_valid, kind_takes, pairs_valid, value_valid, Cardinality, TableKind, is_linked, is_repeated, FieldRow, EnumRow, MessageRow, TableRows, own_type, schema_kind, value_type_of, form_of, schema_field, map_parts, value_of, key_of, pairs_from, MapKey, Value}
 use lib.ListN.{get_or}
 use mir.Val.{Fits}
 use mir.Syntax.{w8}
