@@ -16,7 +16,7 @@ use Rattle.prost_reflect.specs.declared.relaying.RelayError.TheVariants as relay
 use Rattle.prost_reflect.specs.declared.relaying.RelayHexError.{RelayHexError}
 use Rattle.prost_reflect.specs.declared.relaying.RelayHexError.TheVariants as hex_relays
 use Rattle.protorelay.specs.Sets.{IsPoolOfSet}
-use Rattle.protorelay.specs.Reading.{pool_schema, RefusesPool, relay_refusal}
+use Rattle.protorelay.specs.Reading.{pool_schema, relay_refusal}
 use Rattle.protorelay.specs.Relaying.{RefusesRelay}
 use Rattle.protorelay.specs.declared.refusal.Refusal.{Refusal}
 use Rattle.protorelay.specs.declared.refusal.Refusal.TheVariants as refusals

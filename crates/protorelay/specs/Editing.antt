@@ -1,5 +1,5 @@
 -- What editing makes of a descriptor set, the name of a message type, hex digits, a path of numbers and a text.
-use Rattle.std.specs.Prelude.{◌≡◌, ◌≢◌, ◌≤◌, ◌-◌, ◌^◌, ◌==◌, ℕ, if◌then◌else◌, List, [], ◌∷◌, ◌++◌, length, Option, Some, None, option_map, ⊤}
+use Rattle.std.specs.Prelude.{◌≡◌, ◌≢◌, ◌-◌, ◌^◌, ◌==◌, ℕ, if◌then◌else◌, List, [], ◌∷◌, ◌++◌, Option, Some, None, option_map, ⊤}
 use Rattle.std.specs.List.{slice_split}
 use Rattle.hex.specs.Hex.{encode_lower}
 use Rattle.prost_reflect_wire.specs.Varint.{◌>>=◌}

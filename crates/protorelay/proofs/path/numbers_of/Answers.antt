@@ -1,4 +1,4 @@
-use Rattle.std.proofs.Common.{◌≡◌, ◌==◌, ◌∷◌, [], ◌++◌, ◌+◌, ◌∙◌, ap, sym, length, drop, length-append, lit<}
+use Rattle.std.proofs.Common.{◌≡◌, ◌==◌, ◌∷◌, [], ◌+◌, ◌∙◌, ap, sym, length, drop, length-append, lit<}
 use Rattle.std.specs.List.{slice_split}
 use Rattle.std.specs.Str.Iter.{split_text, split_has_more, split_pattern}
 use Rattle.std.proofs.lemmas.Iterator.Consumers.{YieldsList-turn, YieldsList-end}
