@@ -1,16 +1,14 @@
 -- What the calls that clear along a path make of messages and values.
 use Rattle.std.proofs.Common.{◌≡◌, ◌==◌, ℕ, Bool, true, false, cond, not, ◌&&◌, ◌≤◌, List, [], ◌∷◌, ◌++◌, length, take, drop, Option, Some, None, option_map, refl, ap, sym, ◌∙◌, subst, true≢false}
-use Rattle.std.specs.Prelude.{Vec, map, unwrap_or, IfSome}
+use Rattle.std.specs.Prelude.{map, unwrap_or, IfSome}
 use Rattle.std.specs.Bool.{beq}
 use Rattle.std.specs.BTreeMap.{BTreeMap, insert_entry}
 use Rattle.std.specs.List.Sorted.{IsStrictlySortedBy}
 use Rattle.std.specs.Map.{keys_of}
-use Rattle.std.specs.declared.alloc.Global.{Global}
 use Rattle.prost_reflect_wire.specs.Schema.{field_of, passes}
 use Rattle.prost_reflect_wire.specs.Content as contents
 use Rattle.prost_reflect_wire.specs.Content.{Content, MessageValue, ListValue, MapValue, Pair, entries_of, value_at, values_from}
 use Rattle.prost_reflect_wire.specs.Typing.{WellStored}
-use Rattle.prost_reflect_wire.specs.Edit.{in_message}
 use Rattle.prost_reflect_tables.specs.Places.{row_of, is_declared}
 use Rattle.prost_reflect_tables.specs.Rows.{FieldRow}
 use Rattle.prost_reflect_tables.specs.Shown.{schema_field}
@@ -22,7 +20,7 @@ use Rattle.prost_reflect_dynamic.specs.Access.{is_field_number, number_declared,
 use Rattle.prost_reflect_dynamic.specs.ContentLaws.{pairs_shown, compare_keys}
 use Rattle.prost_reflect_dynamic.specs.Contents.{value_set, value_cleared, cleared_if, set_if}
 use Rattle.prost_reflect_dynamic.specs.Edits.{Removes}
-use Rattle.prost_reflect_dynamic.specs.Variants.{message_in, list_in, pairs_in}
+use Rattle.prost_reflect_dynamic.specs.Variants.{pairs_in}
 use Rattle.prost_reflect_dynamic.specs.View.{key_of, pairs_from, value_of, content_of, value_step, message_step, message_type_of}
 use Rattle.prost_reflect_dynamic.specs.declared.value.MapKey.{MapKey}
 use Rattle.prost_reflect_dynamic.specs.declared.value.Value.{Value, out-Value}
@@ -30,7 +28,7 @@ use Rattle.prost_reflect_dynamic.specs.declared.value.Value as values
 use Rattle.prost_reflect_dynamic.specs.declared.value.Value.TheOpen.{Value-F}
 use Rattle.prost_reflect_dynamic.specs.declared.value.Value.TheFolds.{fold_out-Value, map-Value}
 use Rattle.prost_reflect_dynamic.specs.declared.message.DynamicMessage.{DynamicMessage}
-use Rattle.prost_reflect_dynamic.specs.ExtensionAccess.{IsOwnExtension, extension_number}
+use Rattle.prost_reflect_dynamic.specs.ExtensionAccess.{extension_number}
 use Rattle.prost_reflect_dynamic.specs.Named.{NamesSame}
 use Rattle.prost_reflect_dynamic.specs.NamedExtensions.{Extends}
 use Rattle.prost_reflect_dynamic.specs.declared.descriptor.extension.ExtensionDescriptor.{ExtensionDescriptor}
@@ -41,9 +39,8 @@ use Rattle.prost_reflect_dynamic.proofs.Copied.{insert_last, keys_appended}
 use Rattle.prost_reflect_dynamic.proofs.Described.{field_at_number}
 use Rattle.prost_reflect_dynamic.proofs.ListedNumbers.{extension_missed, extension_own}
 use Rattle.prost_reflect_dynamic.proofs.Merging.{known_in, valid_in}
-use Rattle.prost_reflect_dynamic.proofs.NestedReads.{held_is}
-use Rattle.prost_reflect_dynamic.proofs.Views.{value_of_message, value_of_list, value_of_map, list_viewed}
-use Rattle.prototool.specs.Redacting.{in_pairs, in_messages, cleared_along, IsWell, AreWell, PairsWell, HoldsWell, ClearsLast, ClearsThrough, ClearsAlong, ClearsInside, ClearsElement, ClearsElements, ClearsEntries}
+use Rattle.prost_reflect_dynamic.proofs.Views.{value_of_map}
+use Rattle.prototool.specs.Redacting.{in_pairs, in_messages, cleared_along, AreWell, PairsWell, HoldsWell, ClearsLast, ClearsThrough, ClearsInside, ClearsElement, ClearsElements, ClearsEntries}
 use Rattle.prototool.proofs.ClearedLists.{in_first, all_changed_back, pairs_of, EntriesSoFar, one_entry, all_entries, value_well}
 use Rattle.prototool.proofs.ClearedThrough.{through_first, through_none, last_none, none_at_unknown, had_at_first, had_not, sound_in, known_at_value}
 

@@ -1,4 +1,4 @@
-use Rattle.std.proofs.Common.{ℕ, ◌+◌, ◌*◌}
+use Rattle.std.proofs.Common.{◌+◌, ◌*◌}
 use Rattle.prototool.proofs.print.fields.+reading.Given as goal
 
 abbrev pub decreases-read_fields : goal.decreases-read_fields

@@ -1,4 +1,4 @@
-use Rattle.std.proofs.Common.{ℕ, ◌+◌, ◌*◌}
+use Rattle.std.proofs.Common.{◌+◌, ◌*◌}
 use Rattle.prototool.proofs.print.unknown.+guessing.Given as goal
 
 abbrev pub decreases-push_unknown : goal.decreases-push_unknown
