@@ -9,15 +9,12 @@ use Rattle.std.specs.Ordering.{eq_by_cmp, is_eq}
 use Rattle.std.specs.declared.cmp.Ordering.{Ordering}
 use Rattle.std.specs.declared.cmp.Ordering.TheVariants.{Less}
 use Rattle.std.proofs.Common.{zero-add}
+use Rattle.std.proofs.lemmas.Bool.{or_parts}
 use Rattle.std.proofs.lemmas.List.{append-nil}
 use Rattle.std.proofs.lemmas.List.Kept.{IsStrictlySortedBy-dedup}
 use Rattle.std.proofs.lemmas.List.Sorted.{IsPermutation-map, length_permutation, sum_by-IsPermutation}
 use Rattle.std.proofs.lemmas.List.Sums.{sum_by-append, sum_by-cons, sum_by_push}
 use Rattle.prost_reflect_tables.specs.Faults.{repeats_by}
-
-neither : (a b : Bool) → (a || b) ≡ false → (a ≡ false) × (b ≡ false)
-neither true b e = cc
-neither false b e = (refl, e)
 
 -- HOW OFTEN EACH STANDS THERE
 
@@ -38,7 +35,7 @@ module _ {X : Type 0} (same : X → X → Bool) (equal : IsEquivalence same) whe
   none : (t n : X) → same t n ≡ true → (xs : List X) → list_any (same n) xs ≡ false → count t xs ≡ 0
   none t n e [] h = refl
   none t n e (x ∷ xs) h =
-      let (head, rest) = neither (same n x) (list_any (same n) xs) h in
+      let (head, rest) = or_parts (same n x) (list_any (same n) xs) h in
       count-cons t x xs ∙ (ap (λ b. cond b 1 0 + count t xs) (equal.congr t n x e ∙ head) ∙ (zero-add (count t xs) ∙ none t n e xs rest))
 
   some : (t : X) (xs : List X) → list_any (same t) xs ≡ true → 1 ≤ count t xs
@@ -59,7 +56,7 @@ module _ {X : Type 0} (same : X → X → Bool) (equal : IsEquivalence same) whe
   at_most : (before ns : List X) → repeats_by same before ns ≡ false → OnceEach before → OnceEach (before ++ ns)
   at_most before [] h few t = subst (λ l. count t l ≤ 1) (sym (append-nil before)) (few t)
   at_most before (n ∷ ns) h few t =
-      let (new, rest) = neither (list_any (same n) before) (repeats_by same (before ++ n ∷ []) ns) h in
+      let (new, rest) = or_parts (list_any (same n) before) (repeats_by same (before ++ n ∷ []) ns) h in
       subst (λ l. count t l ≤ 1) (append_assoc before (n ∷ []) ns) (at_most (before ++ n ∷ []) ns rest (one_more before n new few) t)
 
   own : (n : X) (ns : List X) → list_any (same n) (n ∷ ns) ≡ true
