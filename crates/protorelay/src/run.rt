@@ -39,7 +39,8 @@ const USAGE: &str = "usage: protorelay relay|show SET NAME HEX | edit SET NAME H
 
 /// Carries out a command line, given without the program's name, and answers the status that the program ends with.
 ///
-/// As `carry_out`, with status 0 for `Done`, 1 for `Refused` and for a write that fails, and 2 for `Misused`.
+/// It is carried out by `carry_out`, which says what is written on either stream. The status is 0 where it answers `Done`, 1
+/// where it answers `Refused` or a write fails, and 2 where it answers `Misused`.
 pub fn run<O: Write, E: Write>(words: &[String], out: &mut O, err: &mut E) -> u8
     ensures done { result ≡ 0 → (err.new ≡ err.old) × ((text : List ℕ)
         × AnswersWords (map string_bytes words.now) text

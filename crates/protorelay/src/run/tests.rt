@@ -116,13 +116,28 @@ fn names_the_first_refusal(rt: HostRuntime) -> Result<(), Fail> {
     Ok(())
 }
 
-/// A hundred groups in one another pass, and no more.
+/// A record of the unknown number 10 with a million bytes.
+fn long_record(alloc: Global) -> Result<String, AllocError> {
+    let mut digits = String::from_str(alloc, "52c0843d")?;
+    for _ in 0..1_000_000 {
+        digits.push_str("ff")?;
+    }
+    Ok(digits)
+}
+
+/// The message is relayed as it is.
+fn passes(rt: &impl Abort, alloc: Global, digits: &str) -> Result<(), AllocError> {
+    let words = four_words(alloc, &["relay", "-", PLAIN, digits])?;
+    let written = format!(in alloc; "{digits}\n")?;
+    answered(rt, alloc, words.as_slice(), 0, written.as_str(), "");
+    Ok(())
+}
+
+/// A message of two million digits passes. So do a hundred groups in one another, and no more.
 #[test]
 fn passes_a_hundred_groups(rt: HostRuntime) -> Result<(), Fail> {
-    let deep = groups(rt.alloc(), 100)?;
-    let words = four_words(rt.alloc(), &["relay", "-", PLAIN, deep.as_str()])?;
-    let written = format!(in rt.alloc(); "{deep}\n")?;
-    answered(&rt, rt.alloc(), words.as_slice(), 0, written.as_str(), "");
+    passes(&rt, rt.alloc(), long_record(rt.alloc())?.as_str())?;
+    passes(&rt, rt.alloc(), groups(rt.alloc(), 100)?.as_str())?;
     let deep = groups(rt.alloc(), 101)?;
     let words = four_words(rt.alloc(), &["relay", "-", PLAIN, deep.as_str()])?;
     answered(
