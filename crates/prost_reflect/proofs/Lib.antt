@@ -1,5 +1,4 @@
 pub mod LoneExtensions
-pub mod Shows
 pub mod PlainValues
 pub mod Passing
 pub mod Edits

@@ -1,13 +1,14 @@
 -- What clearing a number and setting a value keep of a content.
-use Rattle.std.specs.Prelude.{◌≡◌, ◌≤◌}
-use Rattle.prost_reflect_dynamic.proofs.Common.{ℕ, Bool, true, false, not, cond, nat_eq, List, Option, Some, None, refl, ap, sym, subst, ◌∙◌, true≢false, is_some, and_parts, and_from, eq-eqb, Field, known, field_of, passes, Content, ContentOf, Entries, Slot, value_at, slot_at, insert_number, numbers_in, changed, schema_of, type_of, entries_of, kept, kept_entries, kind_for, fit_test, value_passes, value_valid, encodable, ValueStored, ValueTyped, WellStored, with_value, cleared, set_field, with_field_value, Holds, with_stored, field_number, table_passes, OptionPasses, SlotPasses, passes_slots, stored_passes, value_set, value_cleared, cleared_if, values_taken, in_entries, Arranged, without_unknown, has_at, saying, says_nothing, stored_at, takes_at, all_typed, IsWhole, held_set, Removes, Sets, StaysTyped, typed_at, message_stored, value_stored, value_of, content_of, message_type_of, stored_in, entries_from, DynamicMessage, size-DynamicMessage, IsAscending, known_of, schema_at, type_at, PooledType}
+use Rattle.std.specs.Prelude.{◌≡◌, ◌≢◌, ◌≤◌}
+use Rattle.prost_reflect_dynamic.proofs.Common.{ℕ, Bool, true, false, not, cond, nat_eq, List, Option, Some, None, refl, ap, sym, subst, ◌∙◌, true≢false, is_some, and_parts, and_from, eq-eqb, eqb-true, ne_eqb, Field, is_sibling, are_siblings, known, field_of, passes, Content, ContentOf, Entries, NoEntries, Stored, Unknown, Slot, value_at, slot_at, insert_number, numbers_in, changed, schema_of, type_of, entries_of, kept, kept_entries, kind_for, fit_test, value_passes, value_valid, encodable, ValueStored, ValueTyped, WellStored, with_value, cleared, set_field, with_field_value, Holds, with_stored, field_number, table_passes, OptionPasses, SlotPasses, passes_slots, stored_passes, value_set, value_cleared, cleared_if, values_taken, entries_without, in_entries, Arranged, without_unknown, has_at, saying, says_nothing, stored_at, takes_at, all_typed, IsWhole, held_set, Removes, Sets, StaysTyped, typed_at, message_stored, value_stored, value_of, content_of, message_type_of, stored_in, entries_from, DynamicMessage, size-DynamicMessage, IsAscending, is_listed, known_of, schema_at, type_at, PooledType}
 use Rattle.prost_reflect_wire.specs.Content.{Value}
 use Rattle.prost_reflect_wire.specs.Typing.{entries_pass}
+use Rattle.prost_reflect_dynamic.specs.Edits.{StaysBeside}
 use Rattle.prost_reflect_dynamic.specs.declared.value.Value as values
-use Rattle.prost_reflect_dynamic.proofs.ContentChanges.{slots_after_clear, message_arranged}
+use Rattle.prost_reflect_dynamic.proofs.ContentChanges.{slots_after_clear, slots_after_set, message_arranged}
 use Rattle.prost_reflect_dynamic.proofs.Described.{schema_at_valid}
 use Rattle.prost_reflect_dynamic.proofs.Had.{has_found}
-use Rattle.prost_reflect_dynamic.proofs.KeptSlots.{kept_after_set, kept_after_clear, kept_after_clear_all}
+use Rattle.prost_reflect_dynamic.proofs.KeptSlots.{kept_slot, slot_kept, kept_after_set, kept_after_clear, kept_after_clear_all}
 use Rattle.prost_reflect_dynamic.proofs.Merging.{differ_in, known_in}
 use Rattle.prost_reflect_dynamic.proofs.Removals.{cleared_sound, fits, fits_by_itself, clear_fits, clear_holds, taken_fits, taken_holds, kept_taken, unknown_taken_fits, unknown_taken_holds, kept_unknown_taken}
 use Rattle.prost_reflect_dynamic.proofs.SetPaths.{set_holds}
@@ -75,7 +76,61 @@ clear_gone c n a =
     ∙ ap (λ (s : Slot). is_some s.value) (slots_after_clear (kept c) n n)
     ∙ ap is_some (none_there (nat_eq n n) (slot_at (entries_of (kept c)) n) (eq-eqb n n refl))
 
+-- what stands at another number stays
+clear_beside : (c : Content) (n k : ℕ) → k ≢ n → value_at k (entries_of (value_cleared n c)) ≡ value_at k (entries_of c)
+clear_beside c n k apart =
+    ap (λ (s : Slot). s.value) (slots_after_clear c n k ∙ ap (λ b. cond b (with_value None (slot_at (entries_of c) k)) (slot_at (entries_of c) k)) (ne_eqb k n apart))
+
+set_beside : (c : Content) (n k : ℕ) (v : Value) → Arranged (entries_of c) → Arranged (entries_of (value_set n v c)) → k ≢ n → are_siblings (known (schema_of c) (type_of c)) n k ≡ false
+    → value_at k (entries_of (kept (value_set n v c))) ≡ value_at k (entries_of (kept c))
+set_beside (ContentOf schema T es) n k v a b apart lone = go (field_of (known schema T) n) refl lone
+  where
+    fields : List Field
+    fields = known schema T
+
+    slot : Slot
+    slot = slot_at es k
+
+    go : (o : Option Field) → field_of fields n ≡ o → passes o (λ f. is_sibling fields f k) ≡ false → value_at k (entries_of (kept (value_set n v (ContentOf schema T es)))) ≡ value_at k (kept_entries fields es)
+    go None found h = ap (λ (o : Option Field). value_at k (kept_entries fields (elim o [ None ↦ es | Some f ↦ with_field_value fields f (Some v) es ]))) found
+    go (Some f) found h =
+        ap (λ (s : Slot). s.value)
+        (slot_kept fields (entries_of (value_set n v (ContentOf schema T es))) k b
+        ∙ ap (kept_slot (field_of fields k))
+        (slots_after_set (ContentOf schema T es) n v f found k
+        ∙ ap (λ b. cond b (with_value (Some v) slot) (cond (is_sibling fields f k) (with_value None slot) slot)) (ne_eqb k n apart)
+        ∙ ap (λ b. cond b (with_value None slot) slot) h)
+        ∙ sym (slot_kept fields es k a))
+
+pub none_cleared : (c : Content) (n : ℕ) → has_at n (cleared c) ≡ false
+none_cleared (ContentOf schema T es) n = refl
+
+-- a number that passes has no value where those that pass are taken
+without_gone : (test : ℕ → Bool) (n : ℕ) (es : Entries) → test n ≡ true → value_at n (entries_without test es) ≡ None
+without_gone test n NoEntries h = refl
+without_gone test n (Unknown m p es) h = without_gone test n es h
+without_gone test n (Stored m v es) h = go (test m) refl (without_gone test n es h)
+  where
+    differ : (b : Bool) → nat_eq m n ≡ b → test m ≡ false → nat_eq m n ≡ false
+    differ true same at = absurd (true≢false (sym h ∙ ap test (sym (eqb-true m n same)) ∙ at))
+    differ false same at = same
+
+    go : (b : Bool) → test m ≡ b → value_at n (entries_without test es) ≡ None → value_at n (cond (test m) (entries_without test es) (Stored m v (entries_without test es))) ≡ None
+    go true at rest = ap (λ b. value_at n (cond b (entries_without test es) (Stored m v (entries_without test es)))) at ∙ rest
+    go false at rest =
+        ap (λ b. value_at n (cond b (entries_without test es) (Stored m v (entries_without test es)))) at
+        ∙ ap (λ b. cond b (Some v) (value_at n (entries_without test es))) (differ (nat_eq m n) refl at) ∙ rest
+
+taken_none : (x : Bool) (c : Content) (n : ℕ) → is_listed x (known (schema_of c) (type_of c)) n ≡ true → has_at n (values_taken x c) ≡ false
+taken_none x (ContentOf schema T es) n h =
+    ap (λ d. is_some (value_at n (entries_of d))) (kept_taken x (ContentOf schema T es))
+    ∙ ap is_some (without_gone (is_listed x (known schema T)) n (kept_entries (known schema T) es) h)
+
 -- MESSAGES
+
+-- no field is left where all were taken, or no extension
+pub taken_gone : (m new : DynamicMessage) (x : Bool) → Removes (values_taken x) m new → (n : ℕ) → is_listed x (known_of (message_type_of m)) n ≡ true → has_at n (content_of new) ≡ false
+taken_gone m new x removes n h = ap (has_at n) removes.content ∙ taken_none x (content_of m) n (ap (λ fields. is_listed x fields n) (known_in m) ∙ h)
 
 pub message_set_sound : (m new : DynamicMessage) (n : ℕ) (v : values.Value) → content_of new ≡ value_set n (value_of v) (content_of m) → takes_at (message_type_of m) n v ≡ true → IsWhole (message_type_of m) n v → WellStored (content_of m) → WellStored (content_of new)
 message_set_sound m new n v is valid whole w =
@@ -98,6 +153,9 @@ clears m new n s type is typed depth = record {
   typed = typed.typed;
   depth = depth;
 }
+
+pub stays_beside : (m new : DynamicMessage) (n : ℕ) → Removes (cleared_if (Some n)) m new → StaysBeside n m new
+stays_beside m new n removes k apart = ap (λ c. value_at k (entries_of c)) removes.held ∙ clear_beside (kept (content_of m)) n k apart
 
 pub is_gone : (m new : DynamicMessage) (n : ℕ) → IsAscending (stored_in m) → content_of new ≡ value_cleared n (content_of m) → has_at n (content_of new) ≡ false
 is_gone m new n s is = ap (has_at n) is ∙ clear_gone (content_of m) n (message_arranged m s)
@@ -157,4 +215,7 @@ sets m new n v s type is stays ascends there valid = record {
   typed = λ t. let step : StaysTyped m new = stays t in step.typed;
   stored = there;
   has = has_stored m new n v type ascends there;
+  others = λ k apart lone.
+      ap (λ c. value_at k (entries_of (kept c))) is
+      ∙ set_beside (content_of m) n k (value_of v) (message_arranged m s) (subst (λ c. Arranged (entries_of c)) is (message_arranged new ascends)) apart (ap (λ fields. are_siblings fields n k) (known_in m) ∙ lone);
 }

@@ -44,6 +44,7 @@ mod NumberMerging
 mod PartedNumbers
 mod WrittenLists
 pub mod Had
+pub mod Shown
 pub mod OwnFields
 mod OwnExtensions
 pub mod FieldDefaults

@@ -1,6 +1,6 @@
 -- Extensions of a message's own type, and what their numbers are to it.
 use Rattle.std.specs.Prelude.{◌≡◌, ◌∷◌}
-use Rattle.prost_reflect_dynamic.proofs.Common.{ℕ, suc, Bool, true, List, [], Option, Some, None, refl, ap, sym, ◌∙◌, AllByRecursion, option_map, option_and_then, is_some, slice_get, IfOk, IfSome, Result, AllocError, same_Some, field_of, passes, value_valid, fields_at, FieldRow, schema_field, extending_or_none, extension_where, fields_of, pool_rows, PooledType, rows_same, known_of, is_known, takes_at, IsOwnExtension, extension_takes, extension_named, extension_row_named, Extends, value_of, ExtensionDescriptor, MessageDescriptor, Value}
+use Rattle.prost_reflect_dynamic.proofs.Common.{ℕ, suc, Bool, true, List, [], Option, Some, None, refl, ap, sym, ◌∙◌, AllByRecursion, option_map, option_and_then, unwrap_or, is_some, slice_get, IfOk, IfSome, Result, AllocError, same_Some, field_of, passes, value_valid, fields_at, FieldRow, schema_field, extending_or_none, extension_where, fields_of, pool_rows, PooledType, rows_same, known_of, is_known, takes_at, IsOwnExtension, extension_number, extension_takes, extension_named, extension_row_named, Extends, value_of, ExtensionDescriptor, MessageDescriptor, Value}
 use Rattle.prost_reflect_tables.specs.CatalogRows.{ExtensionRow, MessageListsRow}
 use Rattle.prost_reflect_pool.specs.Pools.{pool_catalog}
 use Rattle.prost_reflect_pool.proofs.ExtensionPlaces.{FoundExtension, extension_found as place_found, extending_there}
@@ -36,6 +36,10 @@ extension_known t x n own h = ap is_some (extension_found t x n own h) ∙ there
 -- It takes what the message type's field of its number takes.
 pub extension_takes_found : (t : PooledType) (x : ExtensionDescriptor) (n : ℕ) (v : Value) → IsOwnExtension t x → option_map (λ f. f.number) (extension_row_named x) ≡ Some n → extension_takes x v ≡ takes_at t n v
 extension_takes_found t x n v own h = ap (λ o. passes o (λ f. value_valid f (value_of v))) (sym (extension_found t x n own h))
+
+-- So it does at the extension's number.
+pub own_extension_takes : (t : PooledType) (x : ExtensionDescriptor) (f : FieldRow) (v : Value) → IsOwnExtension t x → extension_row_named x ≡ Some f → extension_takes x v ≡ takes_at t (extension_number x) v
+own_extension_takes t x f v own at = extension_takes_found t x (extension_number x) v own (ap (option_map (λ f. f.number)) at ∙ ap (λ o. Some (unwrap_or (option_map (λ f. f.number) o) 0)) (sym at))
 
 -- WHAT LOOK-UPS AND WALKS ANSWER
 

@@ -1,7 +1,9 @@
 -- Fields of a message's own type, and what their numbers are to it.
 use Rattle.std.specs.Prelude.{◌≡◌, ◌≢◌}
 use Rattle.prost_reflect_dynamic.proofs.Common.{ℕ, Bool, true, false, not, cond, and_from, eq-eqb, ne_eqb, Field, field_number, is_sibling, are_siblings, List, Option, Some, None, refl, ap, sym, ◌∙◌, unwrap_or, true≢false, option_map, option_and_then, is_some, slice_get, IfOk, IfSome, Result, AllocError, Ok, Err, bytes_eq, field_of, passes, value_valid, FieldRow, fields_at, row_of, place_of, schema_field, named_field, pool_rows, fields_of, PooledType, rows_same, known_of, is_known, row_at_number, row_at_place, row_of_number, no_row, fields_ascend, IsOwnField, is_field_number, number_named, number_of, takes, takes_at, NumberFound, NumberMissing, NameFound, NameMissing, TakesFound, NamesEqual, NamesSame, MessageDescriptor, row_at, is_declared, is_declared_at, declared_place, FieldDescriptor, value_of, Value}
+use Rattle.std.specs.Bool.{beq}
 use Rattle.prost_reflect_wire.specs.Schema.{same_oneof}
+use Rattle.prost_reflect_fields.specs.Known.{is_listed}
 use Rattle.prost_reflect_tables.specs.Schema.{rows_of}
 use Rattle.prost_reflect_dynamic.specs.Named.{SameMessage}
 use Rattle.prost_reflect_dynamic.specs.NamedFields as named
@@ -43,6 +45,18 @@ number_known t n h = some_known (schema_field (pool_rows t.pool)) (row_of (field
     declared : (o : Option FieldRow) → is_declared o ≡ true → is_some o ≡ true
     declared None h = absurd (true≢false (sym h))
     declared (Some f) h = refl
+
+-- and it is listed among those of fields
+pub number_listed : (t : PooledType) (n : ℕ) → is_field_number t n ≡ true → is_listed false (known_of t) n ≡ true
+number_listed t n h = ap (λ o. passes o (λ f. beq false f.is_extension)) (field_at_number t n) ∙ declared (row_of (fields_of t) n) h
+  where
+    apart : (b : Bool) → not b ≡ true → beq false b ≡ true
+    apart true h = absurd (true≢false (sym h))
+    apart false h = refl
+
+    declared : (o : Option FieldRow) → is_declared o ≡ true → passes (option_map (schema_field (pool_rows t.pool)) o) (λ f. beq false f.is_extension) ≡ true
+    declared None h = absurd (true≢false (sym h))
+    declared (Some f) h = apart f.is_extension h
 
 -- so is that of a field that a name finds
 pub named_known : (t : PooledType) (name : List ℕ) (n : ℕ) → number_named t name ≡ Some n → is_known (known_of t) n ≡ true

@@ -98,6 +98,10 @@ ShowsFound None m shown = shown ≡ None
 ShowsFound (Some n) m None = ⊥
 ShowsFound (Some n) m (Some shown) = Shows m n shown
 
+-- Without defaults that have no presence it is what the message holds for others at the number, or else the default.
+abbrev pub ShowsHeld : DynamicMessage → ℕ → Cow Value → Type 0
+ShowsHeld m n shown = IfSome (field_of (known_of (message_type_of m)) n) (λ f. kept_inside (value_of (cow_value shown)) ≡ elim (value_at n (entries_of (kept (content_of m)))) [ None ↦ default_value (schema_at (message_type_of m)) f.form f.value_type | Some v ↦ v ])
+
 -- WHAT IS LENT FOR WRITING
 
 abbrev pub IsStoredOr : PooledType → ℕ → Option contents.Value → contents.Value → Type 0

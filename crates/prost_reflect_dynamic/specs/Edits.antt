@@ -1,14 +1,14 @@
 -- What the edits of a message keep: what it holds for others, and that it stays encodable, well-stored and typed; and what of that the values that it gives keep.
-use Rattle.std.specs.Prelude.{◌≡◌, ◌≤◌, ℕ, true, not, Option, Some, None, IfSome}
+use Rattle.std.specs.Prelude.{◌≡◌, ◌≢◌, ◌≤◌, ℕ, true, false, not, Option, Some, None, IfSome}
 use Rattle.prost_reflect_wire.specs.Schema.{field_of, passes}
 use Rattle.prost_reflect_wire.specs.Content as contents
-use Rattle.prost_reflect_wire.specs.Content.{Content, value_ordered}
+use Rattle.prost_reflect_wire.specs.Content.{Content, entries_of, value_at, value_ordered}
 use Rattle.prost_reflect_wire.specs.Typing.{kept, kind_for, encodable, fit_test, alone_test, value_passes, ValueTyped, WellStored}
 use Rattle.prost_reflect_wire.specs.Edit.{set_field, in_field}
 use Rattle.prost_reflect_pool.specs.MessageTypes.{schema_at}
 use Rattle.prost_reflect_pool.specs.declared.pooled_type.PooledType.{PooledType}
 use Rattle.prost_reflect_fields.specs.FieldSlots.{stored_at}
-use Rattle.prost_reflect_fields.specs.Known.{known_of}
+use Rattle.prost_reflect_fields.specs.Known.{known_of, are_siblings}
 use Rattle.prost_reflect_dynamic.specs.Access.{IsOwnField, has_at, number_of, takes_at, left_if, says_nothing}
 use Rattle.prost_reflect_dynamic.specs.Contents.{set_if}
 use Rattle.prost_reflect_dynamic.specs.DeepTypes.{all_typed}
@@ -61,6 +61,10 @@ KeepsSound old new = WellStored (content_of old) → WellStored (content_of new)
 abbrev pub KeepsTyped : DynamicMessage → DynamicMessage → Type 0
 KeepsTyped old new = all_typed (message_stored old) ≡ true → all_typed (message_stored new) ≡ true
 
+-- What the message holds for others at any other number is as it was.
+abbrev pub StaysBeside : ℕ → DynamicMessage → DynamicMessage → Type 0
+StaysBeside n old new = (k : ℕ) → k ≢ n → value_at k (entries_of (kept (content_of new))) ≡ value_at k (entries_of (kept (content_of old)))
+
 -- REMOVING
 
 -- What is stored, and what is held for others, was changed alike; what writing asks for was kept; and the message nests no deeper.
@@ -85,10 +89,12 @@ pub record Sets (found : Option ℕ) (v : Value) (old new : DynamicMessage) : Ty
   pub typed : IfSome found (λ n. typed_at (message_type_of old) n (value_stored v) ≡ true) → KeepsTyped old new
   pub stored : IfSome found (λ n. stored_at (stored_in new) n ≡ Some v)
   pub has : IfSome found (λ n. has_at n (content_of new) ≡ not (says_nothing (known_of (message_type_of old)) n v))
+  pub others : IfSome found (λ n. (k : ℕ) → k ≢ n → are_siblings (known_of (message_type_of old)) n k ≡ false → value_at k (entries_of (kept (content_of new))) ≡ value_at k (entries_of (kept (content_of old))))
 
--- Whatever fits the field and is left behind the reference that was lent is set.
+-- Whatever fits the field and is left behind the reference that was lent is set. What is held for others is as behind a set, whatever is left.
 pub record LeavesSet (found : Option ℕ) (m : DynamicMessage) : Type 0 where
   pub each : (v : Value) → passes found (λ n. takes_at (message_type_of m) n v) ≡ true → Sets found v m (left_if found m v)
+  pub held : (v : Value) → kept (content_of (left_if found m v)) ≡ elim found [ None ↦ kept (content_of m) | Some n ↦ held_set n (value_of v) (kept (content_of m)) ]
 
 -- Where a message is lent, and one of its type is left there that keeps what writing asks for, so does the message around it.
 pub record LeavesMessage (found : Option ℕ) (m : DynamicMessage) (lent : Value) : Type 0 where

@@ -1,6 +1,6 @@
 //! Messages whose types are known only at run time.
 
-ghost use Rattle.std.specs.Prelude.{◌≡◌, ◌↔◌, true, false, [], IsTrue, Some, OnOk, OnErr, IfOk, IfSome, option_map, unwrap_or};
+ghost use Rattle.std.specs.Prelude.{◌≡◌, ◌↔◌, ℕ, true, false, [], IsTrue, Some, OnOk, OnErr, IfOk, IfSome, option_map, unwrap_or};
 ghost use Rattle.std.specs.Borrow.{LendsIf, LendsIfOk, sem};
 ghost use Rattle.std.specs.Option.{option_copied, option_copied_mut};
 ghost use Rattle.prost_reflect_wire.specs.Unknown.{unknown_record};
@@ -8,7 +8,7 @@ ghost use Rattle.prost_reflect_wire.specs.Content.{empty, entries_of, value_at};
 ghost use Rattle.prost_reflect_wire.specs.Edit.{cleared};
 ghost use Rattle.prost_reflect_wire.specs.Typing.{WellStored};
 ghost use Rattle.prost_reflect_dynamic.specs.Access.{has_at, takes_at};
-ghost use Rattle.prost_reflect_dynamic.specs.Edits.{Removes, Sets};
+ghost use Rattle.prost_reflect_dynamic.specs.Edits.{Removes, Sets, StaysBeside};
 ghost use Rattle.prost_reflect_dynamic.specs.contracts.message.DynamicMessage.{the_row};
 ghost use Rattle.prost_reflect_dynamic.specs.contracts.value.Value as value;
 ghost use Rattle.prost_reflect_pool.specs.MessageTypes.{schema_at, type_at, SameMessage};
@@ -133,6 +133,7 @@ impl DynamicMessage {
     /// Removes all values and all unknown fields. The type stays.
     pub fn clear(&mut self)
         ensures removes { Removes cleared self.old self.new }
+        ensures gone { (n : ℕ) → has_at n (content_of self.new) ≡ false }
         ensures sound { WellStored (content_of self.new) }
         ensures typed { all_typed (message_stored self.new) ≡ true }
     {
@@ -193,6 +194,7 @@ impl DynamicMessage {
         ensures value { option_map value_of result ≡ value_at number (entries_of (content_of self.old)) }
         ensures removes { Removes (cleared_if (Some number)) self.old self.new }
         ensures gone { has_at number (content_of self.new) ≡ false }
+        ensures others { StaysBeside number self.old self.new }
         ensures ascending { IsAscending (stored_in self.old) }
     {
         self.fields.take(number)
@@ -202,6 +204,7 @@ impl DynamicMessage {
     pub(crate) fn clear_value(&mut self, number: u32)
         ensures removes { Removes (cleared_if (Some number)) self.old self.new }
         ensures gone { has_at number (content_of self.new) ≡ false }
+        ensures others { StaysBeside number self.old self.new }
     {
         self.fields.clear(number);
     }

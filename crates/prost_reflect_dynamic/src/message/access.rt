@@ -11,9 +11,9 @@ ghost use Rattle.prost_reflect_dynamic.specs.contracts.value.Value as value;
 ghost use Rattle.prost_reflect_dynamic.specs.declared.message.DynamicMessage.{size-DynamicMessage};
 ghost use Rattle.prost_reflect_dynamic.specs.declared.value.Value.{Value, size-Value};
 ghost use Rattle.prost_reflect_wire.specs.Schema.{passes};
-ghost use Rattle.prost_reflect_dynamic.specs.Edits.{IsPart, LeavesMessage, LeavesSet, Removes, Sets};
+ghost use Rattle.prost_reflect_dynamic.specs.Edits.{IsPart, LeavesMessage, LeavesSet, Removes, Sets, StaysBeside};
 ghost use Rattle.prost_reflect_fields.specs.Known.{known_of, is_known};
-ghost use Rattle.prost_reflect_dynamic.specs.Access.{IsOwnField, number_of, is_field_number, number_declared, takes, takes_at, has_at, had_at, saying, says_nothing, IsDefaultAt, Shows, ShowsIf, IsLentOf, left_at};
+ghost use Rattle.prost_reflect_dynamic.specs.Access.{IsOwnField, number_of, is_field_number, number_declared, takes, takes_at, has_at, had_at, saying, says_nothing, IsDefaultAt, Shows, ShowsHeld, ShowsIf, IsLentOf, left_at};
 ghost use Rattle.prost_reflect_dynamic.specs.Contents.{cleared_if, value_set};
 ghost use Rattle.prost_reflect_dynamic.specs.Stored.{value_stored};
 ghost use Rattle.prost_reflect_dynamic.specs.TypedSteps.{typed_at};
@@ -81,6 +81,7 @@ impl DynamicMessage {
     ) -> Result<Cow<'_, Value>, AllocError>
         requires { IsOwnField (message_type_of self.now) field.now }
         ensures shown { IfOk result (Shows self.now (number_of field.now)) }
+        ensures held { IfOk result (ShowsHeld self.now (number_of field.now)) }
         ensures inside { IfOk result (ShownInside self.now) }
         ensures part { IfOk result (λ shown. IsPart self.now (number_of field.now) (cow_value shown)) }
     {
@@ -99,6 +100,7 @@ impl DynamicMessage {
         number: u32,
     ) -> Result<Option<Cow<'_, Value>>, AllocError>
         ensures shown { IfOk result (ShowsIf (is_field_number (message_type_of self.now) number) self.now number) }
+        ensures held { IfOk result (λ found. IfSome found (ShowsHeld self.now number)) }
         ensures inside { IfOk result (λ found. IfSome found (ShownInside self.now)) }
         ensures part { IfOk result (λ found. IfSome found (λ shown. IsPart self.now number (cow_value shown))) }
         ensures missing { is_field_number (message_type_of self.now) number ≡ false → IsOk result }
@@ -158,6 +160,7 @@ impl DynamicMessage {
         requires { IsOwnField (message_type_of self.old) field.now }
         ensures removes { Removes (cleared_if (Some (number_of field.now))) self.old self.new }
         ensures gone { has_at (number_of field.now) (content_of self.new) ≡ false }
+        ensures others { StaysBeside (number_of field.now) self.old self.new }
     {
         self.clear_value(field.number());
     }
@@ -166,6 +169,7 @@ impl DynamicMessage {
     pub fn clear_field_by_number(&mut self, number: u32)
         ensures removes { Removes (cleared_if (number_declared (message_type_of self.old) number)) self.old self.new }
         ensures gone { passes (number_declared (message_type_of self.old) number) (λ n. has_at n (content_of self.new)) ≡ false }
+        ensures others { StaysBeside number self.old self.new }
         ensures unchanged { is_field_number (message_type_of self.old) number ≡ false → self.new ≡ self.old }
     {
         if self.is_field_number(number) {
@@ -182,6 +186,7 @@ impl DynamicMessage {
         ensures part { IfSome result (IsPart self.old (number_of field.now)) }
         ensures removes { Removes (cleared_if (Some (number_of field.now))) self.old self.new }
         ensures gone { has_at (number_of field.now) (content_of self.new) ≡ false }
+        ensures others { StaysBeside (number_of field.now) self.old self.new }
     {
         self.take_had(field.number())
     }
@@ -193,6 +198,7 @@ impl DynamicMessage {
         ensures part { IfSome result (IsPart self.old number) }
         ensures removes { Removes (cleared_if (number_declared (message_type_of self.old) number)) self.old self.new }
         ensures gone { passes (number_declared (message_type_of self.old) number) (λ n. has_at n (content_of self.new)) ≡ false }
+        ensures others { StaysBeside number self.old self.new }
         ensures unchanged { is_field_number (message_type_of self.old) number ≡ false → self.new ≡ self.old }
     {
         if self.is_field_number(number) {
@@ -278,6 +284,7 @@ impl DynamicMessage {
     ) -> Result<Cow<'_, Value>, AllocError>
         requires { is_known (known_of (message_type_of self.now)) number ≡ true }
         ensures shown { IfOk result (Shows self.now number) }
+        ensures held { IfOk result (ShowsHeld self.now number) }
         ensures inside { IfOk result (ShownInside self.now) }
         ensures part { IfOk result (λ shown. IsPart self.now number (cow_value shown)) }
     {
@@ -345,6 +352,7 @@ impl DynamicMessage {
         ensures part { IfSome result (IsPart self.old number) }
         ensures removes { Removes (cleared_if (Some number)) self.old self.new }
         ensures gone { has_at number (content_of self.new) ≡ false }
+        ensures others { StaysBeside number self.old self.new }
     {
         let value = self.take_value(number);
         saying(self.message_type(), number, value)

@@ -7,10 +7,10 @@ ghost use Rattle.prost_reflect_dynamic.specs.contracts.message.DynamicMessage.{t
 ghost use Rattle.prost_reflect_dynamic.specs.contracts.value.Value as value;
 ghost use Rattle.prost_reflect_dynamic.specs.declared.message.DynamicMessage.{size-DynamicMessage};
 ghost use Rattle.prost_reflect_dynamic.specs.declared.value.Value.{Value, size-Value};
-ghost use Rattle.prost_reflect_dynamic.specs.Access.{has_at, had_at, Shows, IsLentOf, left_at};
+ghost use Rattle.prost_reflect_dynamic.specs.Access.{has_at, had_at, Shows, ShowsHeld, IsLentOf, left_at};
 ghost use Rattle.prost_reflect_dynamic.specs.Contents.{cleared_if, value_set};
 ghost use Rattle.prost_reflect_dynamic.specs.Depths.{LendsInside, ShownInside};
-ghost use Rattle.prost_reflect_dynamic.specs.Edits.{IsPart, LeavesMessage, LeavesSet, Removes, Sets};
+ghost use Rattle.prost_reflect_dynamic.specs.Edits.{IsPart, LeavesMessage, LeavesSet, Removes, Sets, StaysBeside};
 ghost use Rattle.prost_reflect_dynamic.specs.ExtensionAccess.{IsOwnExtension, extension_number, extension_takes};
 ghost use Rattle.prost_reflect_dynamic.specs.View.{value_of, content_of, message_type_of};
 
@@ -61,6 +61,7 @@ impl DynamicMessage {
     ) -> Result<Cow<'_, Value>, AllocError>
         requires { IsOwnExtension (message_type_of self.now) extension.now }
         ensures shown { IfOk result (Shows self.now (extension_number extension.now)) }
+        ensures held { IfOk result (ShowsHeld self.now (extension_number extension.now)) }
         ensures inside { IfOk result (ShownInside self.now) }
         ensures part { IfOk result (λ shown. IsPart self.now (extension_number extension.now) (cow_value shown)) }
     {
@@ -98,6 +99,7 @@ impl DynamicMessage {
         requires { IsOwnExtension (message_type_of self.old) extension.now }
         ensures removes { Removes (cleared_if (Some (extension_number extension.now))) self.old self.new }
         ensures gone { has_at (extension_number extension.now) (content_of self.new) ≡ false }
+        ensures others { StaysBeside (extension_number extension.now) self.old self.new }
     {
         self.clear_value(extension.number());
     }
@@ -112,6 +114,7 @@ impl DynamicMessage {
         ensures part { IfSome result (IsPart self.old (extension_number extension.now)) }
         ensures removes { Removes (cleared_if (Some (extension_number extension.now))) self.old self.new }
         ensures gone { has_at (extension_number extension.now) (content_of self.new) ≡ false }
+        ensures others { StaysBeside (extension_number extension.now) self.old self.new }
     {
         self.take_had(extension.number())
     }

@@ -1,13 +1,13 @@
 //! Fields that are lent for writing by their numbers and by their names.
 
-ghost use Rattle.std.specs.Prelude.{◌≡◌, IfErr, IfOk, IfSome, OnOk};
+ghost use Rattle.std.specs.Prelude.{◌≡◌, true, IfErr, IfOk, IfSome, IsOk, OnOk};
 ghost use Rattle.std.specs.Borrow.{LendsIfOk, sem};
 ghost use Rattle.prost_reflect_dynamic.specs.Depths.{LendsInside};
 ghost use Rattle.prost_reflect_dynamic.specs.Edits.{IsPart, LeavesMessage, LeavesSet};
 ghost use Rattle.prost_reflect_dynamic.specs.contracts.message.DynamicMessage.{the_row};
 ghost use Rattle.prost_reflect_dynamic.specs.contracts.value.Value as value;
 ghost use Rattle.prost_reflect_dynamic.specs.declared.value.Value.{Value};
-ghost use Rattle.prost_reflect_dynamic.specs.Access.{number_declared, number_named, IsLentIf, left_if};
+ghost use Rattle.prost_reflect_dynamic.specs.Access.{is_field_number, number_declared, number_named, IsLentIf, left_if};
 ghost use Rattle.prost_reflect_dynamic.specs.Contents.{set_if};
 ghost use Rattle.prost_reflect_dynamic.specs.Lending.{RefusesLoan};
 ghost use Rattle.prost_reflect_dynamic.specs.View.{value_of, content_of, message_type_of};
@@ -47,6 +47,7 @@ impl DynamicMessage {
         ensures inside { IfOk result (λ lent. LendsInside (number_declared (message_type_of self.old) number) self.old lent.now) }
         ensures sets { OnOk result (LeavesSet (number_declared (message_type_of self.old) number) self.old) }
         ensures message { IfOk result (λ lent. LeavesMessage (number_declared (message_type_of self.old) number) self.old lent.now) }
+        ensures found { IsOk result → is_field_number (message_type_of self.old) number ≡ true }
         ensures message_type { (v : Value) → message_type_of (left_if (number_declared (message_type_of self.old) number) self.old v) ≡ message_type_of self.old }
         ensures content { OnOk result ((v : Value) → content_of (left_if (number_declared (message_type_of self.old) number) self.old v) ≡ set_if (number_declared (message_type_of self.old) number) (value_of v) (content_of self.old)) }
         ensures refused { IfErr result (RefusesLoan (number_declared (message_type_of self.old) number)) }

@@ -143,6 +143,7 @@ impl DynamicMessage {
     ) -> Result<(), SetFieldError>
         ensures message_type { message_type_of self.new ≡ message_type_of self.old }
         ensures sets { OnOk result (Sets (number_declared (message_type_of self.old) number) value self.old self.new) }
+        ensures found { IsOk result → is_field_number (message_type_of self.old) number ≡ true }
         ensures valid { IsOk result → passes (number_declared (message_type_of self.old) number) (λ n. takes_at (message_type_of self.old) n value) ≡ true }
         ensures again { IsOk result → is_field_number (message_type_of self.new) number ≡ true → takes_at (message_type_of self.new) number value ≡ true }
         ensures err { OnErr result (self.new ≡ self.old) }

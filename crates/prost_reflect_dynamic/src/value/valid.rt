@@ -12,7 +12,7 @@ ghost use Rattle.prost_reflect_tables.specs.Shown.{schema_field, schema_kind};
 ghost use Rattle.prost_reflect_pool.specs.Pools.{pool_rows};
 ghost use Rattle.prost_reflect_pool.specs.declared.pooled_type.PooledType.{PooledType};
 ghost use Rattle.prost_reflect_dynamic.specs.Access.{IsOwnField, number_of, takes, takes_at};
-ghost use Rattle.prost_reflect_dynamic.specs.ExtensionAccess.{extension_takes};
+ghost use Rattle.prost_reflect_dynamic.specs.ExtensionAccess.{IsOwnExtension, extension_number, extension_takes};
 ghost use Rattle.prost_reflect_dynamic.specs.NamedKinds.{enums_in, kind_named};
 ghost use Rattle.prost_reflect_dynamic.specs.Scalars.{scalar_of};
 ghost use Rattle.prost_reflect_dynamic.specs.Valid.{list_fits, map_fits, pair_fits};
@@ -49,7 +49,8 @@ impl Value {
 
     /// Whether the extension takes the value, as `is_valid_for_field` says it of a field.
     pub fn is_valid_for_extension(&self, extension: &ExtensionDescriptor) -> bool
-        ensures { result ≡ extension_takes extension.now self.now }
+        ensures fits { result ≡ extension_takes extension.now self.now }
+        ensures by_number { (t : PooledType) → IsOwnExtension t extension.now → result ≡ takes_at t (extension_number extension.now) self.now }
     {
         value_valid(&extension.parent_pool().inner, extension.table(), self)
     }

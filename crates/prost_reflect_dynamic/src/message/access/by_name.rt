@@ -3,10 +3,10 @@
 ghost use Rattle.std.specs.Prelude.{◌≡◌, ◌<◌, IfOk, IfSome, IsOk, None, OnErr, OnOk, option_and_then, false, true};
 ghost use Rattle.std.specs.Cow.{cow_value};
 ghost use Rattle.prost_reflect_wire.specs.Schema.{passes};
-ghost use Rattle.prost_reflect_dynamic.specs.Access.{number_named, takes_at, has_at, had_at, ShowsFound};
+ghost use Rattle.prost_reflect_dynamic.specs.Access.{number_named, takes_at, has_at, had_at, ShowsFound, ShowsHeld};
 ghost use Rattle.prost_reflect_dynamic.specs.Contents.{cleared_if};
 ghost use Rattle.prost_reflect_dynamic.specs.Depths.{ShownInside};
-ghost use Rattle.prost_reflect_dynamic.specs.Edits.{IsPart, Removes, Sets};
+ghost use Rattle.prost_reflect_dynamic.specs.Edits.{IsPart, Removes, Sets, StaysBeside};
 ghost use Rattle.prost_reflect_dynamic.specs.View.{content_of, message_type_of};
 ghost use Rattle.prost_reflect_dynamic.specs.declared.message.DynamicMessage.{size-DynamicMessage};
 ghost use Rattle.prost_reflect_dynamic.specs.declared.value.Value.{size-Value};
@@ -39,6 +39,7 @@ impl DynamicMessage {
         name: &str,
     ) -> Result<Option<Cow<'_, Value>>, AllocError>
         ensures shown { IfOk result (ShowsFound (number_named (message_type_of self.now) name.now) self.now) }
+        ensures held { IfOk result (λ found. IfSome found (λ shown. IfSome (number_named (message_type_of self.now) name.now) (λ n. ShowsHeld self.now n shown))) }
         ensures inside { IfOk result (λ found. IfSome found (ShownInside self.now)) }
         ensures part { IfOk result (λ found. IfSome found (λ shown. IfSome (number_named (message_type_of self.now) name.now) (λ n. IsPart self.now n (cow_value shown)))) }
         ensures missing { number_named (message_type_of self.now) name.now ≡ None → IsOk result }
@@ -53,6 +54,7 @@ impl DynamicMessage {
     pub fn clear_field_by_name(&mut self, name: &str)
         ensures removes { Removes (cleared_if (number_named (message_type_of self.old) name.now)) self.old self.new }
         ensures gone { passes (number_named (message_type_of self.old) name.now) (λ n. has_at n (content_of self.new)) ≡ false }
+        ensures others { IfSome (number_named (message_type_of self.old) name.now) (λ n. StaysBeside n self.old self.new) }
         ensures unchanged { number_named (message_type_of self.old) name.now ≡ None → self.new ≡ self.old }
     {
         match self.number_named(name) {
@@ -68,6 +70,7 @@ impl DynamicMessage {
         ensures part { IfSome result (λ value. IfSome (number_named (message_type_of self.old) name.now) (λ n. IsPart self.old n value)) }
         ensures removes { Removes (cleared_if (number_named (message_type_of self.old) name.now)) self.old self.new }
         ensures gone { passes (number_named (message_type_of self.old) name.now) (λ n. has_at n (content_of self.new)) ≡ false }
+        ensures others { IfSome (number_named (message_type_of self.old) name.now) (λ n. StaysBeside n self.old self.new) }
         ensures unchanged { number_named (message_type_of self.old) name.now ≡ None → self.new ≡ self.old }
     {
         match self.number_named(name) {

@@ -1,15 +1,15 @@
 //! Taking all fields, or all extensions, of a message.
 
-ghost use Rattle.std.specs.Prelude.{◌≡◌, ◌<◌, ◌≤◌, ◌+◌, false, true, [], length, map, zip, All, IfOk, OnOk, OnErr, vec_capacity, vec_len};
+ghost use Rattle.std.specs.Prelude.{◌≡◌, ◌<◌, ◌≤◌, ◌+◌, ℕ, false, true, [], length, map, zip, All, IfOk, OnOk, OnErr, vec_capacity, vec_len};
 ghost use Rattle.std.specs.Vec.Iter.{into_iter_items};
 ghost use Rattle.prost_reflect_maps.specs.Items.{IsAscending};
 ghost use Rattle.prost_reflect_fields.specs.Known.{known_of, is_listed};
-ghost use Rattle.prost_reflect_dynamic.specs.Access.{IsOwnField, number_of};
+ghost use Rattle.prost_reflect_dynamic.specs.Access.{IsOwnField, has_at, is_field_number, number_of};
 ghost use Rattle.prost_reflect_dynamic.specs.Contents.{values_taken};
 ghost use Rattle.prost_reflect_dynamic.specs.Edits.{IsPart, Removes};
 ghost use Rattle.prost_reflect_dynamic.specs.ExtensionAccess.{IsOwnExtension, extension_number};
 ghost use Rattle.prost_reflect_dynamic.specs.ValueLists.{had_pairs, said};
-ghost use Rattle.prost_reflect_dynamic.specs.View.{message_type_of, stored_in};
+ghost use Rattle.prost_reflect_dynamic.specs.View.{content_of, message_type_of, stored_in};
 ghost use Rattle.prost_reflect_walks.specs.Walks.{EachTaken};
 ghost use Rattle.prost_reflect_dynamic.specs.declared.message.DynamicMessage.{size-DynamicMessage};
 ghost use Rattle.prost_reflect_dynamic.specs.declared.value.Value.{size-Value};
@@ -66,6 +66,7 @@ impl DynamicMessage {
         ensures parts { IfOk result (EachTaken (λ p. IsPart self.old (number_of p.0) p.1)) }
         ensures message_type { message_type_of self.new ≡ message_type_of self.old }
         ensures removes { OnOk result (Removes (values_taken false) self.old self.new) }
+        ensures gone { OnOk result ((n : ℕ) → is_field_number (message_type_of self.old) n ≡ true → has_at n (content_of self.new) ≡ false) }
         ensures err { OnErr result (self.new ≡ self.old) }
     {
         let fields = self.had_fields(alloc)?;
@@ -86,6 +87,7 @@ impl DynamicMessage {
         ensures parts { IfOk result (EachTaken (λ p. IsPart self.old (extension_number p.0) p.1)) }
         ensures message_type { message_type_of self.new ≡ message_type_of self.old }
         ensures removes { OnOk result (Removes (values_taken true) self.old self.new) }
+        ensures gone { OnOk result ((n : ℕ) → is_listed true (known_of (message_type_of self.old)) n ≡ true → has_at n (content_of self.new) ≡ false) }
         ensures err { OnErr result (self.new ≡ self.old) }
     {
         let extensions = self.had_extensions(alloc)?;

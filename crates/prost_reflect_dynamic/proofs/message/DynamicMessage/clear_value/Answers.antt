@@ -1,6 +1,6 @@
 use Rattle.prost_reflect_dynamic.proofs.Common.{rules, nat_eq, ap}
 use Rattle.prost_reflect_dynamic.proofs.Depths.{without_depth}
-use Rattle.prost_reflect_dynamic.proofs.Edits.{clears, is_gone}
+use Rattle.prost_reflect_dynamic.proofs.Edits.{clears, is_gone, stays_beside}
 use Rattle.prost_reflect_dynamic.proofs.Stored.{message_cleared}
 use Rattle.prost_reflect_dynamic.proofs.TypedSteps.{without_typed}
 use Rattle.prost_reflect_dynamic.proofs.message.DynamicMessage.clear_value.Goals as goal
@@ -13,3 +13,6 @@ returns-clause-removes c =
 
 pub returns-clause-gone : goal.returns-clause-gone
 returns-clause-gone c = is_gone c.args.self.now _ c.args.number c.clear.ensures.ascending (message_cleared c.args.self.now c.clear.new.self c.args.number c.clear.ensures.ascending c.clear.ensures.left)
+
+pub returns-clause-others : goal.returns-clause-others
+returns-clause-others c = stays_beside c.args.self.now _ c.args.number (returns-clause-removes c)

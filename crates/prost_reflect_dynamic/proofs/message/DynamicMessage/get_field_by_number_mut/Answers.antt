@@ -17,6 +17,7 @@ returns-in-Ok c =
         inside = subst (λ (o : Option ℕ). LendsInside o c.args.self.now c.in-Ok.value.now) (sym is) c.in-Ok.ensures.inside;
         sets = subst (λ (o : Option ℕ). LeavesSet o c.args.self.now) (sym is) c.in-Ok.ensures.sets;
         message = subst (λ (o : Option ℕ). LeavesMessage o c.args.self.now c.in-Ok.value.now) (sym is) c.in-Ok.ensures.message;
+        found = λ _. sym c.is_field_number.ensures ∙ c.if-is_field_number.true;
         message_type = subst (λ (o : Option ℕ). (v : Value) → message_type_of (left_if o c.args.self.now v) ≡ message_type_of c.args.self.now) (sym is) c.in-Ok.ensures.message_type;
         content = subst (λ (o : Option ℕ). (v : Value) → content_of (left_if o c.args.self.now v) ≡ set_if o (value_of v) (content_of c.args.self.now)) (sym is) c.in-Ok.ensures.content;
         refused = tt;

@@ -1,5 +1,6 @@
 use Rattle.prost_reflect_dynamic.proofs.Common.{map, true, sym, ap, subst, ◌∙◌, All, IsOwnExtension, extension_number, had_pairs, message_type_of, IsPart}
 use Rattle.prost_reflect_dynamic.proofs.Depths.{Small, pairs_small}
+use Rattle.prost_reflect_dynamic.proofs.Edits.{taken_gone}
 use Rattle.prost_reflect_dynamic.proofs.Parts.{all_of, pairs_part}
 use Rattle.prost_reflect_walks.proofs.Walks.{each_taken}
 use Rattle.prost_reflect_dynamic.proofs.ValueLists.{numbers_zipped, all_zipped}
@@ -24,3 +25,6 @@ pub returns-clause-parts : goal.returns-clause-parts
 returns-clause-parts c =
     let m = c.args.self.now in
     each_taken (λ p. IsPart m (extension_number p.0) p.1) _ (all_of (λ p. (extension_number p.0, p.1)) (λ p. IsPart m p.0 p.1) _ (had_pairs true m) (returns-clause-pairs c) (pairs_part m c.in_ok-taken.ensures.ascending true))
+
+pub returns-clause-gone : goal.returns-clause-gone
+returns-clause-gone c = taken_gone c.args.self.now _ true c.in_ok-taken.ensures.removes

@@ -1,6 +1,7 @@
 -- What a message shows at a number is what its content has there, or else the field's default.
-use Rattle.std.proofs.Common.{◌≡◌, Bool, true, false, cond, Option, Some, None, refl, ap, sym, ◌∙◌}
+use Rattle.std.proofs.Common.{◌≡◌, ℕ, Bool, true, false, cond, Option, Some, None, refl, ap, sym, ◌∙◌}
 use Rattle.std.specs.Cow.{cow_value}
+use Rattle.std.specs.declared.borrow.Cow.{Cow}
 use Rattle.std.specs.Prelude.{IfSome}
 use Rattle.std.specs.Option.{option_map}
 use Rattle.prost_reflect_wire.specs.Schema.{Kind, ScalarOf, MessageOf, GroupOf, FieldForm, Singular, Repeated, MapFrom, Field, Schema, field_of, field_valid, passes}
@@ -12,8 +13,10 @@ use Rattle.prost_reflect_wire.proofs.Survivors.{field_number}
 use Rattle.prost_reflect_pool.specs.MessageTypes.{schema_at}
 use Rattle.prost_reflect_fields.specs.FieldSlots.{stored_at}
 use Rattle.prost_reflect_fields.specs.Known.{known_of}
-use Rattle.prost_reflect_dynamic.specs.Access.{ShowsOr, IsDefaultAt, ShownContent}
+use Rattle.prost_reflect_maps.specs.Items.{IsAscending}
+use Rattle.prost_reflect_dynamic.specs.Access.{Shows, ShowsHeld, ShowsOr, IsDefaultAt, ShownContent}
 use Rattle.prost_reflect_dynamic.specs.View.{value_of, content_of, message_type_of, stored_in}
+use Rattle.prost_reflect_dynamic.specs.declared.message.DynamicMessage.{DynamicMessage}
 use Rattle.prost_reflect_dynamic.specs.declared.value.Value.{Value}
 use Rattle.prost_reflect_dynamic.proofs.Described.{found_checked}
 use Rattle.prost_reflect_dynamic.proofs.Had.{kept_found}
@@ -30,10 +33,9 @@ default_bare schema f = go f.form f.value_type.kind
     go (Repeated packed) kind = refl
     go (MapFrom key) kind = refl
 
-pub shown_content : ShownContent
-shown_content m n f shown s found shows =
-    got (stored_at (stored_in m) n) refl shows
-    ∙ ap (λ k. elim (value_at k (entries_of (kept (content_of m)))) [ None ↦ default_value schema f.form f.value_type | Some v ↦ v ]) (sym (field_number (known_of (message_type_of m)) n f found))
+shown_at : (m : DynamicMessage) (n : ℕ) (f : Field) (shown : Cow Value) → IsAscending (stored_in m) → field_of (known_of (message_type_of m)) n ≡ Some f → Shows m n shown
+    → kept_inside (value_of (cow_value shown)) ≡ elim (value_at n (entries_of (kept (content_of m)))) [ None ↦ default_value (schema_at (message_type_of m)) f.form f.value_type | Some v ↦ v ]
+shown_at m n f shown s found shows = got (stored_at (stored_in m) n) refl shows
   where
     schema : Schema
     schema = schema_at (message_type_of m)
@@ -63,3 +65,15 @@ shown_content m n f shown s found shows =
         ap (λ v. kept_inside (value_of v)) is.0 ∙ said v (is_field_default f (kept_inside (value_of v))) refl
         ∙ ap (λ o. at (option_map (λ v. kept_inside (value_of v)) (cond (passes o (λ f. is_field_default f (kept_inside (value_of v)))) None (Some v)))) (sym found)
         ∙ ap at (sym (kept_found m n (Some v) s e))
+
+pub shown_content : ShownContent
+shown_content m n f shown s found shows =
+    shown_at m n f shown s found shows
+    ∙ ap (λ k. elim (value_at k (entries_of (kept (content_of m)))) [ None ↦ default_value (schema_at (message_type_of m)) f.form f.value_type | Some v ↦ v ]) (sym (field_number (known_of (message_type_of m)) n f found))
+
+pub shown_held : (m : DynamicMessage) (n : ℕ) (shown : Cow Value) → IsAscending (stored_in m) → Shows m n shown → ShowsHeld m n shown
+shown_held m n shown s shows = go (field_of (known_of (message_type_of m)) n) refl
+  where
+    go : (o : Option Field) → field_of (known_of (message_type_of m)) n ≡ o → IfSome o (λ f. kept_inside (value_of (cow_value shown)) ≡ elim (value_at n (entries_of (kept (content_of m)))) [ None ↦ default_value (schema_at (message_type_of m)) f.form f.value_type | Some v ↦ v ])
+    go None found = tt
+    go (Some f) found = shown_at m n f shown s found shows
