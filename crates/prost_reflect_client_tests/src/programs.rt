@@ -5,7 +5,6 @@ pub mod comparing;
 pub mod descriptors;
 pub mod editing;
 pub mod error;
-pub mod merging;
 pub mod moving;
 pub mod nesting;
 pub mod relaying;

@@ -6,10 +6,10 @@ use crate::programs::descriptors::{
     default_key, has_extensions, own_extensions, own_fields, shown_by_full_name,
 };
 use crate::programs::editing::{clear_owned, set_number_twice, set_twice};
-use crate::programs::merging::read_in_pieces;
 use crate::programs::moving::{messages_drained, move_and_write, take_and_set_again};
 use crate::programs::nesting::clear_before;
 use prost_reflect::{DynamicMessage, Kind, MapKey};
+use prost_reflect_promises::read_in_pieces;
 use prost_reflect_samples::{leaked, sets};
 use std::alloc::{AllocError, Global};
 use std::test::Fail;
