@@ -1,6 +1,12 @@
 //! Calls with the descriptors that other calls give.
 
-use prost_reflect::{DynamicMessage, FieldDescriptor, Kind, MapKey, MessageDescriptor, Value};
+ghost use Rattle.std.specs.Prelude.{IfOk, IfSome, IsTrue, Some};
+ghost use Rattle.prost_reflect_dynamic.specs.Access.{number_of};
+ghost use Rattle.prost_reflect_dynamic.specs.Edits.{Sets};
+
+use prost_reflect::{
+    DynamicMessage, FieldDescriptor, Kind, MapKey, MessageDescriptor, Value, laws,
+};
 use std::alloc::{AllocError, Global};
 
 /// How many of the fields that are listed the message has.
@@ -47,6 +53,46 @@ pub fn set_where_it_fits(
         }
     }
     Ok(())
+}
+
+/// Sets, by its number, the field that the look-up of a number finds, if the value fits it. Whether it did: then that number
+/// got the value.
+pub fn set_found_number(
+    message: &mut DynamicMessage,
+    number: u32,
+    value: Value,
+) -> Result<bool, AllocError>
+    ensures { IfOk result (λ is_set. IsTrue is_set → Sets (Some number) value message.old message.new) }
+{
+    laws::number_found();
+    let descriptor = message.descriptor()?;
+    if let Some(field) = descriptor.get_field(number)? {
+        if value.is_valid_for_field(&field) {
+            message.set_field_by_number(number, value)?;
+            return Ok(true);
+        }
+    }
+    Ok(false)
+}
+
+/// Sets, by its name, the field that the look-up of a name finds, if the value fits it. The field, if it did: then that field
+/// got the value.
+pub fn set_found_name(
+    message: &mut DynamicMessage,
+    name: &str,
+    value: Value,
+) -> Result<Option<FieldDescriptor>, AllocError>
+    ensures { IfOk result (λ found. IfSome found (λ field. Sets (Some (number_of field)) value message.old message.new)) }
+{
+    laws::name_found();
+    let descriptor = message.descriptor()?;
+    if let Some(field) = descriptor.get_field_by_name(name)? {
+        if value.is_valid_for_field(&field) {
+            message.set_field_by_name(name, value)?;
+            return Ok(Some(field));
+        }
+    }
+    Ok(None)
 }
 
 /// How many fields of the message's own type it has, and how many of these show a number other than zero.

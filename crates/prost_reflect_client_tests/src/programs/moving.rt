@@ -67,6 +67,24 @@ pub fn take_own_and_merge(
     Ok(message)
 }
 
+/// Takes a field of the message's own type, sets it again, which it takes in any case, and writes.
+pub fn take_own_and_set_again(
+    alloc: Global,
+    message_type: MessageDescriptor,
+    bytes: &[u8],
+    field: &FieldDescriptor,
+) -> Result<Vec<u8>, ClientError> {
+    laws::takes_found();
+    let mut message = DynamicMessage::decode(alloc, message_type, bytes)?;
+    if message.owns_field(field) {
+        let _ = field.number();
+        if let Some(value) = message.take_field(field) {
+            message.set_field(field, value)?;
+        }
+    }
+    Ok(message.encode_to_vec(alloc)?)
+}
+
 /// Copies what the field of a number shows, a stored value or the default, to another message, and writes that.
 pub fn copy_and_write(
     alloc: Global,

@@ -157,3 +157,36 @@ pub fn clear_in_value(
     }
     Ok(())
 }
+
+/// Clears the field of a number in the message and in each message inside of fields, lists among them, at every depth: each
+/// field is taken, changed and set again.
+#[cycle(clearing_all)]
+pub fn clear_everywhere(
+    alloc: Global,
+    message: &mut DynamicMessage,
+    number: u32,
+) -> Result<(), ClientError> {
+    for (field, value) in message.take_fields(alloc)? {
+        let mut value = value;
+        clear_everywhere_in(alloc, &mut value, number)?;
+        if message.owns_field(&field) {
+            message.try_set_field(&field, value)?;
+        }
+    }
+    message.clear_field_by_number(number);
+    Ok(())
+}
+
+#[cycle(clearing_all)]
+fn clear_everywhere_in(alloc: Global, value: &mut Value, number: u32) -> Result<(), ClientError> {
+    match value {
+        Value::Message(message) => clear_everywhere(alloc, message, number)?,
+        Value::List(values) => {
+            for value in values.iter_mut() {
+                clear_everywhere_in(alloc, value, number)?;
+            }
+        }
+        _ => {}
+    }
+    Ok(())
+}
