@@ -16,9 +16,8 @@ const FIELDS: u8 = 25;
 /// How many files the pools have.
 const SIZES: [usize; 2] = [100, 400];
 
-/// How often handles are compared, fourteen in each round. With both sizes that is more often than a test has microseconds, of
-/// which it has sixty millions.
-const TIMES: usize = 2_200_000;
+/// How often handles are compared.
+const TIMES: usize = 400_000;
 
 /// Appends the file `N.proto`, in `pN`, for a number of three digits: `message M`, which has the fields, `optional M m = 26` and
 /// `extensions 100 to 199`, and `extend M { optional int32 x = 100; }`.
