@@ -8,6 +8,7 @@ use std::ops::{Range, RangeInclusive};
 /// The ranges of field numbers that a message type reserves, in the order of its record.
 #[derive(Debug, Drop)]
 pub struct ReservedRanges<'a> {
+    /// The records of the ranges that are still to come.
     pub records: &'a [ReservedRange],
 }
 
@@ -41,6 +42,7 @@ impl<'a> ExactSizeIterator for ReservedRanges<'a> {
 /// The ranges of field numbers that a message type keeps for extensions, in the order of its record.
 #[derive(Debug, Drop)]
 pub struct ExtensionRanges<'a> {
+    /// The records of the ranges that are still to come.
     pub records: &'a [ExtensionRange],
 }
 
@@ -74,6 +76,7 @@ impl<'a> ExactSizeIterator for ExtensionRanges<'a> {
 /// The ranges of numbers that an enum reserves, in the order of its record.
 #[derive(Debug, Drop)]
 pub struct EnumReservedRanges<'a> {
+    /// The records of the ranges that are still to come.
     pub records: &'a [EnumReservedRange],
 }
 
@@ -108,6 +111,7 @@ impl<'a> ExactSizeIterator for EnumReservedRanges<'a> {
 /// The names that a message type or an enum reserves, in the order of its record.
 #[derive(Debug, Drop)]
 pub struct ReservedNames<'a> {
+    /// The names that are still to come.
     pub names: &'a [String],
 }
 
