@@ -132,13 +132,12 @@ impl Blocks {
         self.prepend_varint((self.len() - before) as u64);
     }
 
-    /// The bytes end to end.
-    pub fn to_vec(&self) -> Vec<u8> {
-        let mut whole = Vec::with_capacity(self.len());
-        whole.extend_from_slice(self.front.as_slice());
+    /// Appends the bytes end to end.
+    pub fn append_to(&self, out: &mut Vec<u8>) {
+        out.reserve(self.len());
+        out.extend_from_slice(self.front.as_slice());
         for buffer in self.behind.iter().rev() {
-            whole.extend_from_slice(buffer.as_slice());
+            out.extend_from_slice(buffer.as_slice());
         }
-        whole
     }
 }

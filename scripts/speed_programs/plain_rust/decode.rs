@@ -2,14 +2,14 @@
 
 use crate::message::{DynamicMessage, ScalarRef, Value};
 use crate::schema::{Cardinality, FieldTable, Kind, MessageType};
-use crate::unknown::{UnknownField, UnknownFieldValue, skip_value, decode_value};
+use crate::unknown::{UnknownField, UnknownFieldValue, decode_value, skip_value};
 use crate::wire::{
-    DecodeError, WireType, decode_key, decode_varint, decode_delimited, decode_fixed32, decode_fixed64,
-    unzigzag32, unzigzag64,
+    DecodeError, WireType, decode_delimited, decode_fixed32, decode_fixed64, decode_key,
+    decode_varint, unzigzag32, unzigzag64,
 };
 use std::collections::BTreeMap;
 
-const RECURSION_LIMIT: u32 = 100;
+pub const RECURSION_LIMIT: u32 = 100;
 
 /// Which messages a field has.
 #[derive(Clone, Copy)]
@@ -264,7 +264,7 @@ impl DynamicMessage {
         DynamicMessage::new(self.message_type.at(place))
     }
 
-    fn merge_records(&mut self, bytes: &[u8], levels: u32) -> Result<(), DecodeError> {
+    pub fn merge_records(&mut self, bytes: &[u8], levels: u32) -> Result<(), DecodeError> {
         let mut rest = bytes;
         while !rest.is_empty() {
             let (number, wire_type, after) = decode_key(rest)?;

@@ -8,10 +8,17 @@ use crate::unknown::{UnknownField, UnknownFieldSet, UnknownFieldValue};
 use crate::wire::{WireType, zigzag32, zigzag64};
 
 impl DynamicMessage {
-    pub fn encode_to_vec(&self) -> Vec<u8> {
+    /// Appends the encoding.
+    pub fn encode(&self, out: &mut Vec<u8>) {
         let mut sink = Blocks::default();
         write_body(&mut sink, self);
-        sink.to_vec()
+        sink.append_to(out);
+    }
+
+    pub fn encode_to_vec(&self) -> Vec<u8> {
+        let mut out = Vec::new();
+        self.encode(&mut out);
+        out
     }
 }
 

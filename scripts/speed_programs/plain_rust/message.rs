@@ -5,7 +5,7 @@ use crate::unknown::{UnknownField, UnknownFieldSet};
 use std::collections::BTreeMap;
 use std::mem;
 
-#[derive(PartialEq, Eq, PartialOrd, Ord)]
+#[derive(Clone, PartialEq, Eq, PartialOrd, Ord)]
 pub enum MapKey {
     Bool(bool),
     I32(i32),
@@ -15,6 +15,7 @@ pub enum MapKey {
     String(String),
 }
 
+#[derive(Clone)]
 pub enum Value {
     Bool(bool),
     I32(i32),
@@ -47,12 +48,14 @@ pub enum ScalarRef<'a> {
 }
 
 /// What a message keeps at one number.
+#[derive(Clone)]
 pub enum FieldSlot {
     Value(Value),
     Unknown(UnknownFieldSet),
     Both(Value, UnknownFieldSet),
 }
 
+#[derive(Clone)]
 pub struct DynamicMessage {
     pub message_type: MessageType,
     pub slots: Vec<(u32, FieldSlot)>,
@@ -117,6 +120,14 @@ impl<'a> ScalarRef<'a> {
         }
     }
 
+    pub fn to_value(self) -> Value {
+        match self {
+            ScalarRef::String(text) => Value::String(String::from(text)),
+            ScalarRef::Bytes(bytes) => Value::Bytes(bytes.to_vec()),
+            _ => self.blank_value(),
+        }
+    }
+
     pub fn blank_value(self) -> Value {
         match self {
             ScalarRef::Bool(value) => Value::Bool(value),
@@ -134,6 +145,13 @@ impl<'a> ScalarRef<'a> {
 }
 
 impl FieldSlot {
+    pub fn value(&self) -> Option<&Value> {
+        match self {
+            FieldSlot::Value(value) | FieldSlot::Both(value, _) => Some(value),
+            FieldSlot::Unknown(_) => None,
+        }
+    }
+
     fn value_mut(&mut self) -> Option<&mut Value> {
         match self {
             FieldSlot::Value(value) | FieldSlot::Both(value, _) => Some(value),
@@ -161,8 +179,16 @@ impl DynamicMessage {
     }
 
     /// Where the number stands, or where it would go.
-    fn place(&self, number: u32) -> Result<usize, usize> {
+    pub fn place(&self, number: u32) -> Result<usize, usize> {
         self.slots.binary_search_by_key(&number, |slot| slot.0)
+    }
+
+    /// The value that is stored at the number.
+    pub fn stored_value(&self, number: u32) -> Option<&Value> {
+        match self.place(number) {
+            Ok(index) => self.slots[index].1.value(),
+            Err(_) => None,
+        }
     }
 
     /// Sets the value at the number, and removes those of the other members of its field's oneof.

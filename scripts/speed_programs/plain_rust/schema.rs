@@ -120,13 +120,28 @@ impl MessageType {
         &self.pool.messages[self.index]
     }
 
-    /// The field of the number, by binary search.
-    pub fn field_table(&self, number: u32) -> Option<&FieldTable> {
+    /// The place of the field of the number, by binary search.
+    pub fn field_place(&self, number: u32) -> Option<usize> {
         let fields = &self.table().fields;
-        match fields.binary_search_by_key(&number, |field| field.number) {
-            Ok(place) => Some(&fields[place]),
-            Err(_) => None,
-        }
+        fields
+            .binary_search_by_key(&number, |field| field.number)
+            .ok()
+    }
+
+    pub fn field_table(&self, number: u32) -> Option<&FieldTable> {
+        let place = self.field_place(number)?;
+        Some(&self.table().fields[place])
+    }
+
+    /// The numbers of the members of the oneof of the number's field.
+    pub fn siblings(&self, number: u32) -> impl Iterator<Item = u32> {
+        let table = self.table();
+        let oneof = self.field_table(number).and_then(|field| field.oneof);
+        let places = oneof.map(|oneof| &table.oneofs[oneof].fields);
+        places
+            .into_iter()
+            .flatten()
+            .map(|place| table.fields[*place].number)
     }
 
     /// The fields of the key and the value of a map field's entries.
@@ -189,6 +204,9 @@ fn member(number: u32, name: &str, kind: Kind, oneof: usize) -> FieldTable {
     }
 }
 
+/// How many fields the message type `Wide` has.
+const WIDE: u32 = 1_000;
+
 fn message(name: &str, fields: Vec<FieldTable>) -> MessageTable {
     MessageTable {
         id: Identity {
@@ -206,6 +224,8 @@ impl Pool {
     pub fn of_workloads() -> Pool {
         use Kind::{Bool, Bytes, Double, Fixed64, Int32, Int64, Message, Sint64, String, Uint32};
         let (label, item, deep, text_entry, item_entry) = (0, 1, 2, 3, 4);
+        let (address, owner, older_item, names_entry, labels_entry) = (5, 6, 7, 8, 9);
+        let wide_kinds = [Int32, String, Sint64, Message(label)];
         let mut messages = vec![
             message(
                 "Label",
@@ -234,6 +254,37 @@ impl Pool {
                 "ItemMap.EntriesEntry",
                 vec![field(1, "key", Int32), field(2, "value", Message(label))],
             ),
+            message(
+                "Address",
+                vec![
+                    field(1, "street", String),
+                    field(2, "number", Int32),
+                    field(3, "city", String),
+                ],
+            ),
+            message(
+                "Owner",
+                vec![
+                    field(1, "name", String),
+                    field(2, "address", Message(address)),
+                ],
+            ),
+            message(
+                "OlderItem",
+                vec![
+                    field(1, "id", Int32),
+                    field(2, "name", String),
+                    repeated(4, "tags", Uint32, true),
+                ],
+            ),
+            message(
+                "All.NamesEntry",
+                vec![field(1, "key", String), field(2, "value", Int32)],
+            ),
+            message(
+                "All.LabelsEntry",
+                vec![field(1, "key", Int32), field(2, "value", Message(label))],
+            ),
             message("Items", vec![repeated(1, "items", Message(item), false)]),
             message("Packed", vec![repeated(1, "numbers", Int32, true)]),
             message("Loose", vec![repeated(1, "numbers", Int32, false)]),
@@ -255,6 +306,61 @@ impl Pool {
                 ],
             ),
             message("Nothing", Vec::new()),
+            message(
+                "Request",
+                vec![
+                    field(1, "id", Int64),
+                    field(2, "user", String),
+                    field(3, "session", String),
+                    field(4, "path", String),
+                    field(5, "method", Uint32),
+                    field(6, "status", Int32),
+                    field(7, "received", Fixed64),
+                    field(8, "seconds", Double),
+                    field(9, "is_retried", Bool),
+                    repeated(10, "tags", String, false),
+                    repeated(11, "codes", Uint32, true),
+                    field(12, "origin", Message(label)),
+                    field(13, "body", Bytes),
+                    field(14, "locale", String),
+                    field(15, "attempts", Uint32),
+                    field(16, "offset", Sint64),
+                    field(17, "limit", Int32),
+                    field(18, "score", Double),
+                    field(19, "note", String),
+                    field(20, "parent", Message(label)),
+                ],
+            ),
+            message(
+                "Catalog",
+                vec![
+                    repeated(1, "items", Message(item), false),
+                    field(2, "owner", Message(owner)),
+                ],
+            ),
+            message(
+                "OlderCatalog",
+                vec![repeated(1, "items", Message(older_item), false)],
+            ),
+            message(
+                "Wide",
+                (1..=WIDE)
+                    .map(|n| {
+                        let kind = wide_kinds[n as usize % wide_kinds.len()];
+                        field(n, &format!("f{n}"), kind)
+                    })
+                    .collect(),
+            ),
+            message(
+                "All",
+                vec![
+                    repeated(1, "items", Message(item), false),
+                    repeated(2, "numbers", Int32, true),
+                    repeated(3, "names", Message(names_entry), false),
+                    repeated(4, "labels", Message(labels_entry), false),
+                    repeated(5, "deeps", Message(deep), false),
+                ],
+            ),
         ];
         let mut small = message(
             "Small",

@@ -1,14 +1,17 @@
 //! The fields that no descriptor knows.
 
 use crate::wire::{
-    DecodeError, WireType, decode_key, decode_varint, decode_delimited, decode_fixed32, decode_fixed64,
+    DecodeError, WireType, decode_delimited, decode_fixed32, decode_fixed64, decode_key,
+    decode_varint,
 };
 
+#[derive(Clone)]
 pub struct UnknownField {
     pub number: u32,
     pub value: UnknownFieldValue,
 }
 
+#[derive(Clone)]
 pub enum UnknownFieldValue {
     Varint(u64),
     SixtyFourBit([u8; 8]),
@@ -17,7 +20,7 @@ pub enum UnknownFieldValue {
     ThirtyTwoBit([u8; 4]),
 }
 
-#[derive(Default)]
+#[derive(Clone, Default)]
 pub struct UnknownFieldSet {
     pub fields: Vec<UnknownField>,
 }
