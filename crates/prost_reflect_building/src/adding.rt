@@ -4,19 +4,16 @@ ghost use Rattle.std.specs.Prelude.{◌≡◌, ◌≢◌, ◌++◌, ◌∷◌, [
 ghost use Rattle.prost_reflect_types.specs.DescriptorViews.{shared_files};
 ghost use Rattle.prost_reflect_types.specs.declared.FileDescriptorProto.{FileDescriptorProto};
 ghost use Rattle.prost_reflect_tables.specs.Adding.{is_there, added, AreNamesOf};
-ghost use Rattle.prost_reflect_tables.specs.Built.{AreTablesOf};
-ghost use Rattle.prost_reflect_tables.specs.Checked.{Stands};
+ghost use Rattle.prost_reflect_tables.specs.Checked.{Checked, Stands};
 ghost use Rattle.prost_reflect_tables.specs.Flat.{flattened};
 ghost use Rattle.prost_reflect_tables.specs.FlatViews.{file_list};
-ghost use Rattle.prost_reflect_tables.specs.LinkedCatalog.{IsCatalogOf};
-ghost use Rattle.prost_reflect_tables.specs.Schema.{rows_of};
 ghost use Rattle.prost_reflect_tables.specs.declared.error.PoolError.TheVariants as pool_errors;
 ghost use Rattle.prost_reflect_pool.specs.FileNames.{names_differ};
 ghost use Rattle.prost_reflect_pool.specs.Pools.{files_of, IsPoolOf, RefusesFiles};
 
-use crate::building::build_tables;
+use crate::building::{build_tables, check_files};
 use prost_reflect_pool::LinkedPool;
-use prost_reflect_tables::{Catalog, PoolError, Tables, text_or_empty};
+use prost_reflect_tables::{PoolError, text_or_empty};
 use prost_reflect_types::FileDescriptorProto;
 use std::alloc::{AllocError, Global};
 use std::collections::BTreeSet;
@@ -119,27 +116,32 @@ fn add_files(
     Ok(())
 }
 
-/// The tables of the files and their catalog, if they pass all checks.
-fn tables_of(
-    alloc: Global,
-    files: &[Rc<FileDescriptorProto>],
-) -> Result<(Tables, Catalog), PoolError>
-    ensures tables { IfOk result (λ t. AreTablesOf (shared_files files.now) (rows_of t.0)) }
-    ensures catalog { IfOk result (λ t. IsCatalogOf (shared_files files.now) t.1) }
-    ensures stands { IfErr result (λ e. e ≢ pool_errors.OutOfMemory → Stands e (shared_files files.now) (flattened (shared_files files.now))) }
+/// The pool of files that pass all checks, no two of which have one name.
+fn pool_of(alloc: Global, files: Vec<Rc<FileDescriptorProto>>) -> Result<LinkedPool, AllocError>
+    requires checked { Checked (shared_files files.items) (flattened (shared_files files.items)) }
+    requires names { IsTrue (names_differ (shared_files files.items)) }
+    ensures files { IfOk result (λ pool. files_of pool ≡ shared_files files.items) }
 {
-    let lent = lent(alloc, files)?;
-    build_tables(alloc, lent.as_slice())
+    let lent = lent(alloc, files.as_slice())?;
+    let (tables, catalog) = build_tables(alloc, lent.as_slice())?;
+    drop(lent);
+    Ok(LinkedPool::of(files, tables, catalog))
 }
 
-/// The files with their tables, if they pass all checks; no two have one name.
-fn inner_of(alloc: Global, files: Vec<Rc<FileDescriptorProto>>) -> Result<LinkedPool, PoolError>
-    requires { IsTrue (names_differ (shared_files files.items)) }
-    ensures files { IfOk result (λ inner. files_of inner ≡ shared_files files.items) }
-    ensures stands { IfErr result (λ e. e ≢ pool_errors.OutOfMemory → Stands e (shared_files files.items) (flattened (shared_files files.items))) }
+/// Checks the files behind those of a pool.
+fn check_behind(
+    alloc: Global,
+    pool: &LinkedPool,
+    files: &[Rc<FileDescriptorProto>],
+) -> Result<(), PoolError>
+    ghost more: { List FileDescriptorProto }
+    requires { shared_files files.now ≡ files_of pool.now ++ more }
+    ensures ok { OnOk result (Checked (shared_files files.now) (flattened (shared_files files.now))) }
+    ensures stands { IfErr result (λ e. e ≢ pool_errors.OutOfMemory → Stands e (shared_files files.now) (flattened (shared_files files.now))) }
 {
-    let (tables, catalog) = tables_of(alloc, files.as_slice())?;
-    Ok(LinkedPool::of(files, tables, catalog))
+    let (_, added) = files.split_at(pool.file_count());
+    let lent = lent(alloc, added)?;
+    check_files(alloc, pool, lent.as_slice())
 }
 
 /// The pool of a pool's files and of those of the batch, in their order; they may depend on one another in any order.
@@ -159,5 +161,6 @@ pub fn with_files(
     let alloc = *batch.allocator();
     let mut all = shared(alloc, pool.files())?;
     add_files(alloc, &mut all, batch)?;
-    inner_of(alloc, all)
+    check_behind(alloc, pool, all.as_slice())?;
+    Ok(pool_of(alloc, all)?)
 }

@@ -12,10 +12,12 @@ pub use Rattle.prost_reflect_tables.specs.Indexing.{with_item, list_rows, groupe
 pub use Rattle.prost_reflect_tables.specs.LinkedCatalog.{each_from, linked_lists, linked_extension, file_place, top_file, linked_file, import_at, field_names, json_names, enum_lists, own_fields, value_names, linked_method, linked_service}
 pub use Rattle.prost_reflect_tables.specs.Linking.{links_of, declared_fields, extended_place, linked_field, linked_enum, oneof_place, member_place, belonging, oneofs_from, linked_oneof, linked_value, value_number}
 pub use Rattle.prost_reflect_tables.specs.Orders.{by_text, number_at, number_before, text_at, text_before}
-pub use Rattle.prost_reflect_tables.specs.Resolved.{ResolvedRow, resolved_row, resolved_field, resolved_lists}
+pub use Rattle.prost_reflect_tables.specs.Resolved.{ResolvedRow}
 pub use Rattle.prost_reflect_tables.specs.Rows.{TableRows, FieldRow, field_row, oneof_row, EnumValueRow, enum_value_row}
 pub use Rattle.prost_reflect_tables.proofs.CatalogParts.{same_catalog, linked_length, same_sorted, same_file, same_lists}
 pub use Rattle.prost_reflect_tables.proofs.Gathering.{copied_at, shown_gathered, behind, behind_empty, gathered_more, gathered_all, all_shown}
 pub use Rattle.prost_reflect_tables.proofs.Grouping.{rows_added, more_grouped, all_grouped, item_pushed, item_outside, item_none, rows_linked, groups_length, group_of, oneof_more, same_oneof, smaller_count}
 pub use Rattle.prost_reflect_tables.proofs.Pushing.{made_more, front_left, rows_more}
 pub use Rattle.prost_reflect_tables.proofs.Resolving.{extending_are}
+pub use Rattle.prost_reflect_resolving.specs.Indexed.{all_rows}
+pub use Rattle.prost_reflect_resolving.specs.Resolved.{resolved_row, resolved_lists}

@@ -6,8 +6,9 @@ ghost use Rattle.prost_reflect_tables.specs.CatalogRows.{sorted_row, catalog_row
 ghost use Rattle.prost_reflect_tables.specs.Flat.{FlatRows};
 ghost use Rattle.prost_reflect_tables.specs.Faults.{names_of};
 ghost use Rattle.prost_reflect_tables.specs.FlatViews.{definition_row, file_list, flat_rows, service_row, text_list};
-ghost use Rattle.prost_reflect_tables.specs.Indexed.{IsIndex};
-ghost use Rattle.prost_reflect_tables.specs.Resolved.{resolve, resolved_row};
+ghost use Rattle.prost_reflect_tables.specs.Resolved.{resolve};
+ghost use Rattle.prost_reflect_resolving.specs.Indexed.{all_rows, IsIndex};
+ghost use Rattle.prost_reflect_resolving.specs.Resolved.{resolved_row};
 ghost use Rattle.prost_reflect_tables.specs.LinkedCatalog.{sorted_places, linked_catalog};
 ghost use Rattle.prost_reflect_tables.specs.Linking.{linked_rows, links_of};
 ghost use Rattle.prost_reflect_tables.specs.Schema.{rows_of};
@@ -17,9 +18,10 @@ use crate::files::linked_files;
 use crate::lists::{InnerPlaces, inner_places, lists_of_enums, lists_of_messages};
 use crate::order::ordered_texts;
 use crate::services::linked_services;
+use prost_reflect_resolving::{Index, ResolvedField};
 use prost_reflect_tables::{
-    Catalog, Definition, EnumLists, FileTable, Flat, FlatService, Index, ResolvedField,
-    ServiceTable, SortedPlaces, Tables, add_names, enum_names, file_names, message_names,
+    Catalog, Definition, EnumLists, FileTable, Flat, FlatService, ServiceTable, SortedPlaces, Tables,
+    add_names, enum_names, file_names, message_names,
 };
 use prost_reflect_types::{FieldDescriptorProto, FileDescriptorProto};
 use std::alloc::{AllocError, Global};
@@ -99,6 +101,7 @@ pub fn outlined(
     extensions: &[ResolvedField],
 ) -> Result<Outline, AllocError>
     requires index { IsIndex index.now (flat_rows flat.now) }
+    requires all { all_rows index.now.base (flat_rows flat.now) ≡ flat_rows flat.now }
     requires extensions { map resolved_row extensions.now ≡ map (resolve (links_of (flat_rows flat.now))) (flat_rows flat.now).extensions }
     ensures { IfOk result (λ o. IsOutlineOf o (file_list files.now) (flat_rows flat.now)) }
 {

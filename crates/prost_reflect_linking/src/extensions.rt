@@ -3,11 +3,12 @@
 ghost use Rattle.std.specs.Prelude.{◌≡◌, IfOk, map, unwrap_or};
 ghost use Rattle.prost_reflect_linking.specs.Outlines.{extended_row, found_extended, placed};
 ghost use Rattle.prost_reflect_tables.specs.CatalogRows.{extension_table_row};
-ghost use Rattle.prost_reflect_tables.specs.Resolved.{resolved_row};
+ghost use Rattle.prost_reflect_resolving.specs.Resolved.{resolved_row};
 ghost use Rattle.prost_reflect_tables.specs.Places.{place_of, fields_at};
 ghost use Rattle.prost_reflect_tables.specs.Schema.{rows_of};
 
-use prost_reflect_tables::{ExtensionTable, ResolvedField, Tables, natural_or_zero};
+use prost_reflect_resolving::ResolvedField;
+use prost_reflect_tables::{ExtensionTable, Tables, natural_or_zero};
 use std::alloc::{AllocError, Global};
 
 /// What an extension extends, and its number there.

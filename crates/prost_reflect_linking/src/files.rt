@@ -6,13 +6,14 @@ ghost use Rattle.prost_reflect_tables.specs.Faults.{file_names};
 ghost use Rattle.prost_reflect_tables.specs.FlatViews.{definition_row, file_list, flat_rows};
 ghost use Rattle.prost_reflect_tables.specs.Gathered.{gathered};
 ghost use Rattle.prost_reflect_linking.specs.GatheredLists.{AreTops};
-ghost use Rattle.prost_reflect_tables.specs.Indexed.{IsIndexOf};
+ghost use Rattle.prost_reflect_resolving.specs.Indexed.{IsIndexFrom};
 ghost use Rattle.prost_reflect_tables.specs.LinkedCatalog.{each_from, top_file, file_place, import_at, linked_file};
 
 use crate::gather::{gathered, list_at};
+use prost_reflect_resolving::index_from;
 use prost_reflect_tables::{
-    Definition, FileTable, Flat, FlatEnum, FlatMessage, FlatService, file_names, index_of,
-    is_proto3, place_in,
+    Definition, FileTable, Flat, FlatEnum, FlatMessage, FlatService, file_names, is_proto3,
+    place_in,
 };
 use prost_reflect_types::{FieldDescriptorProto, FileDescriptorProto};
 use std::alloc::{AllocError, Global};
@@ -83,7 +84,7 @@ fn top_places(alloc: Global, files: usize, flat: &Flat) -> Result<TopPlaces, All
 
 /// The place of the file of a name.
 fn file_place(index: &BTreeMap<String, usize>, files: &[&FileDescriptorProto], name: &str) -> usize
-    requires { IsIndexOf index.now (file_names (file_list files.now)) }
+    requires { IsIndexFrom 0 index.now (file_names (file_list files.now)) }
     ensures { result ≡ file_place (file_names (file_list files.now)) name.now }
 {
     index.get(name).copied().unwrap_or(0)
@@ -95,7 +96,7 @@ fn dependency_places(
     files: &[&FileDescriptorProto],
     dependencies: &[String],
 ) -> Result<Vec<usize>, AllocError>
-    requires { IsIndexOf index.now (file_names (file_list files.now)) }
+    requires { IsIndexFrom 0 index.now (file_names (file_list files.now)) }
     ensures { IfOk result (λ v. v.items ≡ map (λ d. file_place (file_names (file_list files.now)) (string_bytes d)) dependencies.now) }
 {
     let mut places = Vec::with_capacity(alloc, dependencies.len())?;
@@ -135,7 +136,7 @@ fn file_table(
     place: usize,
     file: &FileDescriptorProto,
 ) -> Result<FileTable, AllocError>
-    requires index { IsIndexOf index.now (file_names (file_list files.now)) }
+    requires index { IsIndexFrom 0 index.now (file_names (file_list files.now)) }
     requires tops { AreTops tops.now (flat_rows flat.now) (length files.now) }
     requires place { place < length files.now }
     ensures { IfOk result (λ t. file_table_row t ≡ linked_file (file_names (file_list files.now)) (flat_rows flat.now) place file.now) }
@@ -169,7 +170,7 @@ pub fn linked_files(
     ensures { IfOk result (λ v. map file_table_row v.items ≡ each_from (linked_file (file_names (file_list files.now)) (flat_rows flat.now)) 0 (file_list files.now)) }
 {
     let names = file_names(alloc, files)?;
-    let index = index_of(alloc, names.as_slice())?;
+    let index = index_from(alloc, 0, names.as_slice())?;
     let tops = top_places(alloc, files.len(), flat)?;
     let mut tables = Vec::with_capacity(alloc, files.len())?;
     for (place, file) in files.iter().enumerate() {

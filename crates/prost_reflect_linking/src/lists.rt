@@ -10,14 +10,16 @@ ghost use Rattle.prost_reflect_linking.specs.GatheredLists.{AreInner};
 ghost use Rattle.prost_reflect_tables.specs.LinkedCatalog.{each_from, field_names, json_names, own_fields, linked_lists, value_names, enum_lists};
 ghost use Rattle.prost_reflect_tables.specs.Linking.{links_of, extended_place, value_number};
 ghost use Rattle.prost_reflect_tables.specs.Orders.{by_text};
-ghost use Rattle.prost_reflect_tables.specs.Resolved.{resolve, resolved_row};
+ghost use Rattle.prost_reflect_tables.specs.Resolved.{resolve};
+ghost use Rattle.prost_reflect_resolving.specs.Resolved.{resolved_row};
 ghost use Rattle.prost_reflect_tables.specs.Rows.{field_row, message_row};
 
 use crate::gather::{gathered, list_at};
 use crate::order::{ordered_numbers, ordered_texts, sort_by_text};
+use prost_reflect_resolving::ResolvedField;
 use prost_reflect_tables::{
     Definition, EnumLists, FieldTable, Flat, FlatEnum, FlatMessage, MessageLists, MessageTable,
-    ResolvedField, text_or_empty,
+    text_or_empty,
 };
 use prost_reflect_types::{EnumValueDescriptorProto, FieldDescriptorProto};
 use std::alloc::{AllocError, Global};

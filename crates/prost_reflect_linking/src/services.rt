@@ -3,14 +3,13 @@
 ghost use Rattle.std.specs.Prelude.{◌≡◌, IfOk, map};
 ghost use Rattle.prost_reflect_tables.specs.CatalogRows.{method_table_row, service_table_row};
 ghost use Rattle.prost_reflect_tables.specs.FlatViews.{definition_row, flat_rows, service_row};
-ghost use Rattle.prost_reflect_tables.specs.Indexed.{IsIndex};
+ghost use Rattle.prost_reflect_resolving.specs.Indexed.{all_rows, IsIndex};
 ghost use Rattle.prost_reflect_tables.specs.LinkedCatalog.{linked_method, linked_service};
 ghost use Rattle.prost_reflect_tables.specs.Linking.{links_of};
 
 use crate::identity::linked_identity;
-use prost_reflect_tables::{
-    Definition, Flat, FlatService, Index, MethodTable, ServiceTable, message_place,
-};
+use prost_reflect_resolving::{Index, message_place};
+use prost_reflect_tables::{Definition, Flat, FlatService, MethodTable, ServiceTable};
 use prost_reflect_types::MethodDescriptorProto;
 use std::alloc::{AllocError, Global};
 
@@ -21,7 +20,7 @@ fn linked_method(
     method: &Definition<MethodDescriptorProto>,
 ) -> Result<MethodTable, AllocError>
     requires { IsIndex index.now (flat_rows flat.now) }
-    ensures { IfOk result (λ m. method_table_row m ≡ linked_method (links_of (flat_rows flat.now)) (definition_row method.now)) }
+    ensures { IfOk result (λ m. method_table_row m ≡ linked_method (links_of (all_rows index.now.base (flat_rows flat.now))) (definition_row method.now)) }
 {
     let proto = method.proto;
     Ok(MethodTable {
@@ -38,7 +37,7 @@ fn linked_methods(
     methods: &[Definition<MethodDescriptorProto>],
 ) -> Result<Vec<MethodTable>, AllocError>
     requires { IsIndex index.now (flat_rows flat.now) }
-    ensures { IfOk result (λ v. map method_table_row v.items ≡ map (linked_method (links_of (flat_rows flat.now))) (map definition_row methods.now)) }
+    ensures { IfOk result (λ v. map method_table_row v.items ≡ map (linked_method (links_of (all_rows index.now.base (flat_rows flat.now)))) (map definition_row methods.now)) }
 {
     let mut tables = Vec::with_capacity(alloc, methods.len())?;
     for method in methods {
@@ -54,7 +53,7 @@ fn linked_service(
     service: &FlatService,
 ) -> Result<ServiceTable, AllocError>
     requires { IsIndex index.now (flat_rows flat.now) }
-    ensures { IfOk result (λ s. service_table_row s ≡ linked_service (links_of (flat_rows flat.now)) (service_row service.now)) }
+    ensures { IfOk result (λ s. service_table_row s ≡ linked_service (links_of (all_rows index.now.base (flat_rows flat.now))) (service_row service.now)) }
 {
     let definition = &service.definition;
     Ok(ServiceTable {
@@ -75,7 +74,7 @@ pub fn linked_services(
     services: &[FlatService],
 ) -> Result<Vec<ServiceTable>, AllocError>
     requires { IsIndex index.now (flat_rows flat.now) }
-    ensures { IfOk result (λ v. map service_table_row v.items ≡ map (linked_service (links_of (flat_rows flat.now))) (map service_row services.now)) }
+    ensures { IfOk result (λ v. map service_table_row v.items ≡ map (linked_service (links_of (all_rows index.now.base (flat_rows flat.now)))) (map service_row services.now)) }
 {
     let mut tables = Vec::with_capacity(alloc, services.len())?;
     for service in services {

@@ -42,7 +42,6 @@ pub use Rattle.prost_reflect_tables.specs.Flat.{FlatRows, flattened, DefinitionR
 unfoldable pub use Rattle.prost_reflect_tables.specs.Flat.{message_at}
 pub use Rattle.prost_reflect_tables.specs.FlatViews.{message_row, definition_row, enum_row, text_list, flat_rows, scope_row, service_row, file_list}
 pub use Rattle.prost_reflect_tables.specs.Gathered.{places_from, places_where, all_places, places_of, gathered}
-pub use Rattle.prost_reflect_tables.specs.Indexed.{IsNumbersOf, AreNumbersOf, numbered, numbered_list, IsIndexOf}
 pub use Rattle.prost_reflect_tables.specs.Indexing.{empty_lists, with_item, grouped, list_rows, messages_with}
 pub use Rattle.prost_reflect_tables.specs.Linked.{ascending_from, is_linked, message_linked, field_linked, has_entry_numbers, kind_in_range, oneof_in_range, enum_linked, oneof_linked}
 pub use Rattle.prost_reflect_tables.specs.LinkedCatalog.{each_from, file_place, import_at, dependency_places, linked_file, linked_extension, linked_method, linked_service, linked_catalog, field_names, json_names, own_fields, linked_lists, ordered, enum_lists, value_names, sorted_places, service_names}
@@ -52,8 +51,8 @@ unfoldable pub use Rattle.prost_reflect_tables.specs.Linking.{linked_field, link
 pub use Rattle.prost_reflect_tables.specs.Names.{text_or_empty, without_dot, joined, bracketed}
 pub use Rattle.prost_reflect_tables.specs.Options.{bool_of, bool_among, bool_in, bool_option}
 pub use Rattle.prost_reflect_tables.specs.Places.{place_of, fields_at, fields_or_none, is_declared_at, row_of}
-pub use Rattle.prost_reflect_tables.specs.Resolved.{ResolvedRow, resolved_lists, resolved_row}
-unfoldable pub use Rattle.prost_reflect_tables.specs.Resolved.{resolve, resolved_field}
+pub use Rattle.prost_reflect_tables.specs.Resolved.{ResolvedRow}
+unfoldable pub use Rattle.prost_reflect_tables.specs.Resolved.{resolve}
 pub use Rattle.prost_reflect_tables.specs.Rows.{FieldRow, field_row, TableRows, rows_from, IdentityRow, MessageRow, EnumRow, OneofRow, EnumValueRow, written_scalar, identity_row, oneof_row, enum_value_row}
 pub use Rattle.prost_reflect_tables.specs.Schema.{rows_of}
 pub use Rattle.prost_reflect_tables.specs.Shown.{schema_message, schema_field, schema_default, schema_kind, first_number, enum_kind, is_required, own_type, entry_or_none, entry_at, map_entry, type_or, value_type_of, form_of}

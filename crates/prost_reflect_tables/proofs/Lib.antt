@@ -19,7 +19,6 @@ pub mod Grouping
 pub mod Gathering
 pub mod Orders
 pub mod CatalogParts
-pub mod NamePlaces
 mod WorkedLinking
 mod Linkwell
 mod WorkedChecks
@@ -35,7 +34,6 @@ mod SameChecks
 mod SameOptions
 pub mod EqualFiles
 mod WorkedFiles
-mod EnumNumbers
 pub mod Spans
 pub mod Adding
 pub mod Refusing
