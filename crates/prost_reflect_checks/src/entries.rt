@@ -1,6 +1,6 @@
 //! The check of map entries, and of what names them.
 
-ghost use Rattle.std.specs.Prelude.{◌≡◌, map};
+ghost use Rattle.std.specs.Prelude.{◌≡◌, map, slice_get};
 ghost use Rattle.std.specs.List.{list_any};
 ghost use Rattle.prost_reflect_tables.specs.EntryFaults.{is_entry, is_key_type, is_plain, is_entry_key, is_entry_value, is_key_and_value, entry_bad, is_entry_message, names_entry, is_of_entry, wrongly_of_entry, method_of_entry};
 ghost use Rattle.prost_reflect_tables.specs.FlatViews.{definition_row, message_row, flat_rows};
@@ -83,6 +83,14 @@ fn has_entry_bad(resolved: &Resolved, flat: &Flat) -> bool
 
 // WHAT NAMES AN ENTRY
 
+/// Whether the added message at a place among the added ones is an entry.
+fn is_added_entry(resolved: &Resolved, flat: &Flat, offset: usize) -> bool
+    requires { IsResolved resolved.now (flat_rows flat.now) }
+    ensures { result ≡ is_entry_message (slice_get (flat_rows flat.now).messages offset) }
+{
+    resolved.entries.get(offset).copied().unwrap_or(false)
+}
+
 fn is_entry_at(resolved: &Resolved, flat: &Flat, place: Option<usize>) -> bool
     requires { IsResolved resolved.now (flat_rows flat.now) }
     ensures { result ≡ is_entry_message (flat_message_at (all_rows resolved.now.index.base (flat_rows flat.now)) place) }
@@ -92,9 +100,10 @@ fn is_entry_at(resolved: &Resolved, flat: &Flat, place: Option<usize>) -> bool
     };
     let count = resolved.index.base.message_count();
     if place < count {
-        return resolved.index.base.is_entry(place);
+        resolved.index.base.is_entry(place)
+    } else {
+        is_added_entry(resolved, flat, place - count)
     }
-    resolved.entries.get(place - count).copied().unwrap_or(false)
 }
 
 fn names_entry(resolved: &Resolved, flat: &Flat, text: &Option<String>) -> bool

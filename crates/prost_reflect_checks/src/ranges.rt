@@ -95,6 +95,16 @@ fn spans_of(alloc: Global, ranges: &[ExtensionRange]) -> Result<Vec<(u32, u32)>,
     reaching(alloc, spans.as_slice())
 }
 
+/// The extension ranges of the added message at a place among the added ones.
+fn added_ranges<'f>(flat: &'f Flat, offset: usize) -> Option<&'f [ExtensionRange]>
+    ensures { option_map (λ r. r.now) result ≡ ranges_of (slice_get (flat_rows flat.now).messages offset) }
+{
+    match flat.messages.get(offset) {
+        Some(message) => Some(message.definition.proto.extension_range.as_slice()),
+        None => None,
+    }
+}
+
 /// The extension ranges of the message at a place, of the pool or added.
 fn ranges_at<'f>(
     resolved: &'f Resolved,
@@ -105,11 +115,9 @@ fn ranges_at<'f>(
 {
     let count = resolved.index.base.message_count();
     if place < count {
-        return resolved.index.base.extension_ranges(place);
-    }
-    match flat.messages.get(place - count) {
-        Some(message) => Some(message.definition.proto.extension_range.as_slice()),
-        None => None,
+        resolved.index.base.extension_ranges(place)
+    } else {
+        added_ranges(flat, place - count)
     }
 }
 

@@ -1,4 +1,4 @@
 mod Common
 mod NamePlaces
 mod EnumNumbers
-mod LookedUp
+pub mod LookedUp

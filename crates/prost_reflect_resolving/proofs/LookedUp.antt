@@ -20,14 +20,14 @@ module _ (old new all : List (List ℕ)) (joined : all ≡ old ++ new) (first : 
       ∙ (ap (λ n. place_from n new name) count
       ∙ sym (ap (λ names. name_place names name) joined ∙ (place_behind old new name ∙ ap (λ p. or_else p (place_from (length old) new name)) e)))
 
--- VALUES OF ENUMS
+-- AT PLACES
 
-slice_in_front : {X : Type 0} (xs ys : List X) (i : ℕ) → i < length xs → slice_get (xs ++ ys) i ≡ slice_get xs i
+pub slice_in_front : {X : Type 0} (xs ys : List X) (i : ℕ) → i < length xs → slice_get (xs ++ ys) i ≡ slice_get xs i
 slice_in_front [] ys i h = absurd (omega (arith, h))
 slice_in_front (x ∷ xs) ys zero h = refl
 slice_in_front (x ∷ xs) ys (suc i) h = slice_in_front xs ys i (omega (arith, h))
 
-slice_behind : {X : Type 0} (xs ys : List X) (i j : ℕ) → i ≡ length xs + j → slice_get (xs ++ ys) i ≡ slice_get ys j
+pub slice_behind : {X : Type 0} (xs ys : List X) (i j : ℕ) → i ≡ length xs + j → slice_get (xs ++ ys) i ≡ slice_get ys j
 slice_behind [] ys i j e = ap (slice_get ys) (omega (arith, e))
 slice_behind (x ∷ xs) ys zero j e = absurd (omega (arith, e))
 slice_behind (x ∷ xs) ys (suc i) j e = slice_behind xs ys i j (omega (arith, e))

@@ -1,6 +1,6 @@
 //! The names of added definitions, and which definition a text names, of the pool that is there or of the added ones.
 
-ghost use Rattle.std.specs.Prelude.{◌≡◌, IfOk, map};
+ghost use Rattle.std.specs.Prelude.{◌≡◌, [], IfOk, map, slice_get, unwrap_or};
 ghost use Rattle.std.specs.BTreeMap.{get_by_text};
 ghost use Rattle.prost_reflect_tables.specs.Faults.{message_names, enum_names, place_named};
 ghost use Rattle.prost_reflect_tables.specs.FlatViews.{definition_row, enum_row, flat_rows, text_list};
@@ -142,8 +142,24 @@ fn number_in(numbers: &BTreeMap<String, i32>, name: &str) -> Option<i32>
     numbers.get(name).copied()
 }
 
+/// The number of the first value of a name of the added enum at a place among the added ones.
+fn added_number(index: &Index, flat: &Flat, offset: usize, name: &str) -> Option<i32>
+    requires { IsIndex index.now (flat_rows flat.now) }
+    ensures { result ≡ number_named (unwrap_or (slice_get (links_of (flat_rows flat.now)).values offset) []) name.now }
+{
+    match index.numbers.get(offset) {
+        Some(numbers) => number_in(numbers, name),
+        None => None,
+    }
+}
+
 /// The number of the value that a text names, if the kind is an enum: of the enum's first value of that name.
-pub fn number_named(index: &Index, flat: &Flat, kind: TableKind, name: &str) -> Option<i32>
+pub(crate) fn number_named(
+    index: &Index,
+    flat: &Flat,
+    kind: TableKind,
+    name: &str,
+) -> Option<i32>
     requires { IsIndex index.now (flat_rows flat.now) }
     ensures { result ≡ number_named (values_of_kind (links_of (all_rows index.now.base (flat_rows flat.now))) kind) name.now }
 {
@@ -152,10 +168,8 @@ pub fn number_named(index: &Index, flat: &Flat, kind: TableKind, name: &str) -> 
     };
     let count = index.base.enum_count();
     if place < count {
-        return index.base.value_number(place, name);
-    }
-    match index.numbers.get(place - count) {
-        Some(numbers) => number_in(numbers, name),
-        None => None,
+        index.base.value_number(place, name)
+    } else {
+        added_number(index, flat, place - count, name)
     }
 }
