@@ -3,5 +3,4 @@ mod Scopes
 mod NamesInside
 mod Linked
 mod Numbers
-mod Names
-mod Dots
+mod FullNames

@@ -2,7 +2,8 @@
 use Rattle.std.specs.Prelude.{◌≡◌, ◌+◌, ◌<◌, ◌∷◌}
 use Rattle.std.specs.Prelude.{find, option_map, position, slice_get, unwrap_or}
 use Rattle.std.specs.Option.{option_and_then}
-use Rattle.std.proofs.Common.{ℕ, zero, suc, Bool, false, List, [], length, map, Option, Some, None, refl, sym, ap, ◌∙◌, arith}
+use Rattle.std.specs.Str.{bytes_eq}
+use Rattle.std.proofs.Common.{ℕ, ℤ, zero, suc, Bool, false, List, [], get_or, length, map, Option, Some, None, refl, sym, ap, ◌∙◌, arith}
 use Rattle.std.proofs.lemmas.List.{length-map}
 use Rattle.std.proofs.lemmas.Option.{same_Some, slice_get-map}
 use Rattle.prost_reflect_types.specs.declared.DescriptorProto.{DescriptorProto}
@@ -18,18 +19,22 @@ use Rattle.prost_reflect_tables.specs.LinkedCatalog.{linked_catalog, linked_exte
 use Rattle.prost_reflect_tables.specs.LinkedCatalog.{IsCatalogOf}
 use Rattle.prost_reflect_tables.specs.Linking.{Links, links_of, fields_of_message, linked_enum, linked_rows, linked_value, messages_from}
 use Rattle.prost_reflect_tables.specs.Linking.{linked_message}
-use Rattle.prost_reflect_tables.specs.Rows.{EnumRow, EnumValueRow, FieldRow, MessageRow, TableRows}
+use Rattle.prost_reflect_tables.specs.Rows.{EnumRow, EnumValueRow, FieldRow, MessageRow, TableRows, enum_row, enum_value_row}
+use Rattle.prost_reflect_tables.specs.declared.tables.EnumTable.{EnumTable}
+use Rattle.prost_reflect_tables.specs.declared.tables.EnumValueTable.{EnumValueTable}
+use Rattle.prost_reflect_tables.specs.WrittenDefaults.{number_named}
 use Rattle.prost_reflect_tables.proofs.CatalogLinks.{ExtensionThere, mapped_at}
 use Rattle.prost_reflect_tables.proofs.CatalogRanges.{holds_at}
 use Rattle.prost_reflect_pool.specs.Enums.{values_at, values_or_none}
-use Rattle.prost_reflect_pool.specs.Lookups.{extension_name, full_name_or_empty}
+use Rattle.prost_reflect_pool.specs.Lookups.{extension_name, full_name_or_empty, named_value}
 use Rattle.prost_reflect_pool.specs.Pools.{files_of, pool_catalog, pool_rows}
 use Rattle.prost_reflect_pool.specs.RecordPaths.{AnyRecord, MessageRecord, record_in, record_of}
 use Rattle.prost_reflect_pool.specs.declared.pool.LinkedPool.{LinkedPool}
 use Rattle.prost_reflect_pool.proofs.InCatalog.{enum_name, linked_name, linked_names, map_twice, service_name}
 use Rattle.prost_reflect_pool.proofs.InCatalog as catalog
-use Rattle.prost_reflect_pool.proofs.PoolLinks.{extension_of}
+use Rattle.prost_reflect_pool.proofs.PoolLinks.{extension_of, row_in}
 use Rattle.prost_reflect_pool.proofs.RecordPaths.{NamedMessage, flattened_named, led}
+use Rattle.prost_reflect_base.proofs.Lists.{found_nowhere, found_there, place_within}
 
 abbrev pub flat_of : LinkedPool → FlatRows
 flat_of pool = flattened (files_of pool)
@@ -127,7 +132,7 @@ no_entry pool T at = entry_is pool T None at
 
 -- EXTENSION RANGES
 
-abbrev pub ranges_of : FlatMessageRow → List ExtensionRange
+abbrev ranges_of : FlatMessageRow → List ExtensionRange
 ranges_of m = m.definition.proto.extension_range
 
 same_record : (a b : DescriptorProto) → MessageRecord a ≡ MessageRecord b → a ≡ b
@@ -166,8 +171,26 @@ values_of_row : (o : Option FlatEnumRow) → values_or_none (option_map linked_e
 values_of_row None = refl
 values_of_row (Some e) = refl
 
+abbrev is_named : List ℕ → EnumValueRow → Bool
+is_named name v = bytes_eq v.id.name name
+
+abbrev number_of : EnumValueRow → ℤ
+number_of v = v.number
+
 -- The rows of an enum's values are what its definition links to.
-pub values_linked : (pool : LinkedPool) (E : ℕ) → values_at (pool_rows pool) E ≡ unwrap_or (slice_get (links_of (flat_of pool)).values E) []
+values_linked : (pool : LinkedPool) (E : ℕ) → values_at (pool_rows pool) E ≡ unwrap_or (slice_get (links_of (flat_of pool)).values E) []
 values_linked pool E =
     ap values_or_none (ap (λ (r : TableRows). slice_get r.enums E) (rows_are pool) ∙ slice_get-map linked_enum (flat_of pool).enums E)
     ∙ (values_of_row (slice_get (flat_of pool).enums E) ∙ sym (ap (λ (o : Option (List EnumValueRow)). unwrap_or o []) (slice_get-map values_of (flat_of pool).enums E)))
+
+-- The number of the first value of a name is that of its row.
+pub value_there : (pool : LinkedPool) (E i : ℕ) (name : List ℕ) (e : EnumTable) (v : EnumValueTable) → Some i ≡ named_value (values_at (pool_rows pool) E) name → slice_get (pool_rows pool).enums E ≡ Some (enum_row e) → v ≡ get_or e.values.items i v →
+    Some v.number ≡ number_named (unwrap_or (slice_get (links_of (flat_of pool)).values E) []) name
+value_there pool E i name e v found at read =
+    let rows = values_at (pool_rows pool) E in
+    let here : rows ≡ map enum_value_row e.values.items = ap values_or_none at in
+    let row : slice_get rows i ≡ Some (enum_value_row v) = row_in enum_value_row e.values.items rows i v (sym here) (place_within (is_named name) rows i (sym found)) read in
+    sym (ap (option_map number_of) (found_there (is_named name) rows i (sym found) ∙ row)) ∙ ap (λ values. number_named values name) (values_linked pool E)
+
+pub no_value : (pool : LinkedPool) (E : ℕ) (name : List ℕ) → None ≡ named_value (values_at (pool_rows pool) E) name → None ≡ number_named (unwrap_or (slice_get (links_of (flat_of pool)).values E) []) name
+no_value pool E name e = sym (ap (option_map number_of) (found_nowhere (is_named name) (values_at (pool_rows pool) E) (sym e))) ∙ ap (λ values. number_named values name) (values_linked pool E)

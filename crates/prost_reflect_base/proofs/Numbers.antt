@@ -1,12 +1,13 @@
 -- The numbers of fields and extensions are found among the rows of their message types.
-use Rattle.std.specs.Prelude.{◌≡◌, ◌+◌, ◌<◌, ◌≤◌, ◌==◌, ◌&&◌, ◌||◌, ◌∷◌, ◌++◌}
+use Rattle.std.specs.Prelude.{◌≡◌, ◌+◌, ◌<◌, ◌≤◌, ◌^◌, ◌==◌, ◌&&◌, ◌||◌, ◌∷◌, ◌++◌}
 use Rattle.std.specs.List.{list_any, position_from}
 use Rattle.std.specs.Ordering.{int_eq}
-use Rattle.std.specs.Prelude.{nat_eq, nat_le, slice_get}
+use Rattle.std.specs.Int.{FitsUnsignedBits}
+use Rattle.std.specs.Prelude.{nat_eq, nat_le, nat_lt, slice_get, unsigned_abs}
 use Rattle.std.specs.Str.{bytes_eq}
-use Rattle.std.proofs.Common.{ℕ, zero, suc, ℤ, pos, negsuc, Bool, true, false, cond, not, List, [], length, map, Option, Some, None, String, string_bytes, refl, sym, ap, ap₂, ◌∙◌, arith, true≢false}
+use Rattle.std.proofs.Common.{ℕ, zero, suc, ℤ, pos, negsuc, Bool, true, false, cond, not, List, [], length, map, Option, Some, None, String, string_bytes, refl, sym, ap, ap₂, ◌∙◌, arith, true≢false, ⊎_elim}
 use Rattle.std.specs.declared.alloc.Global.{Global}
-use Rattle.std.proofs.lemmas.Bool.{ne_eqb, eq-eqb, or_parts, eqb-true}
+use Rattle.std.proofs.lemmas.Bool.{cases_lt, ne_eqb, eq-eqb, le-ltb, or_parts, eqb-true}
 use Rattle.std.proofs.lemmas.Bool.Decides.{Decides-int_eq}
 use Rattle.std.proofs.lemmas.List.{length-map}
 use Rattle.std.proofs.lemmas.List.Folds.{list_any-append}
@@ -196,7 +197,7 @@ module _ (T n : ℕ) (some : 0 < n) where
       ∙ sym (fields_there (links_of rows) rows.extensions 0 T rows.messages m (omega arith) at)))
 
 -- Whether a message has a number is told by its row.
-pub numbers_known : (rows : FlatRows) (T n : ℕ) → 0 < n → list_any (same_numbered (record { message = T; number = pos n })) (all_numbered rows) ≡ list_any (λ f. f.number == n) (fields_at (linked_rows rows) T)
+numbers_known : (rows : FlatRows) (T n : ℕ) → 0 < n → list_any (same_numbered (record { message = T; number = pos n })) (all_numbered rows) ≡ list_any (λ f. f.number == n) (fields_at (linked_rows rows) T)
 numbers_known rows T n some = known_at T n some rows (slice_get rows.messages T) refl
 
 -- NUMBERS OF NO FIELD
@@ -249,7 +250,7 @@ module _ (T : ℕ) (z : ℤ) (bad : is_field_number z ≡ false) where
       go (Some k) other = ap (λ b. (nat_eq T k && b) || false) other ∙ and_false (nat_eq T k)
 
   -- Where files are checked, no field has a number that is none of a field.
-  pub no_field : (files : List FileDescriptorProto) (rows : FlatRows) → Checked files rows → list_any (same_numbered this) (all_numbered rows) ≡ false
+  no_field : (files : List FileDescriptorProto) (rows : FlatRows) → Checked files rows → list_any (same_numbered this) (all_numbered rows) ≡ false
   no_field files rows checked =
       let parts = or_parts (list_any (λ (m : FlatMessageRow). list_any number_bad m.fields) rows.messages) (list_any number_bad rows.extensions) (checked errors.BadNumber) in
       list_any-append (same_numbered this) (numbered_in 0 rows.messages) (numbered_extensions rows rows.extensions) ∙ ap₂ (λ a b. a || b) (none_in 0 rows.messages parts.0) (none_extends rows rows.extensions parts.1)
@@ -267,11 +268,25 @@ no_zero pool T = go (list_any (λ f. f.number == 0) (fields_at (pool_rows pool) 
         absurd (omega arith)
     go false is = is
 
--- A number that is not negative is asked of the rows,
-pub number_there : (pool : LinkedPool) (T n : ℕ) → list_any (λ f. f.number == n) (fields_at (pool_rows pool) T) ≡ list_any (same_numbered (record { message = T; number = pos n })) (all_numbered (flat_of pool))
+number_there : (pool : LinkedPool) (T n : ℕ) → list_any (λ f. f.number == n) (fields_at (pool_rows pool) T) ≡ list_any (same_numbered (record { message = T; number = pos n })) (all_numbered (flat_of pool))
 number_there pool T zero = no_zero pool T ∙ sym (no_field T (pos zero) refl (files_of pool) (flat_of pool) pool.built.0)
 number_there pool T (suc n) = ap (λ (r : TableRows). list_any (λ f. f.number == suc n) (fields_at r T)) (rows_are pool) ∙ sym (numbers_known (flat_of pool) T (suc n) (omega arith))
 
--- and no field has a negative one.
-pub number_nowhere : (pool : LinkedPool) (T n : ℕ) → false ≡ list_any (same_numbered (record { message = T; number = negsuc n })) (all_numbered (flat_of pool))
-number_nowhere pool T n = sym (no_field T (negsuc n) refl (files_of pool) (flat_of pool) pool.built.0)
+-- A number that is not negative is asked of the rows,
+pub number_read : (pool : LinkedPool) (T n : ℕ) (z : ℤ) → FitsUnsignedBits 32 z → n ≡ unsigned_abs z → list_any (λ f. f.number == n) (fields_at (pool_rows pool) T) ≡ list_any (same_numbered (record { message = T; number = z })) (all_numbered (flat_of pool))
+number_read pool T n (pos m) fits is = ap (λ k. list_any (λ f. f.number == k) (fields_at (pool_rows pool) T)) is ∙ number_there pool T m
+number_read pool T n (negsuc m) fits is = absurd fits
+
+far : (m : ℕ) → (m < 2 ^ 32 → ⊥) → is_field_number (pos m) ≡ false
+far m unfit =
+    let above : 2 ^ 29 ≤ m = ⊎_elim (λ less. absurd (unfit less)) (λ more. omega arith) (cases_lt m (2 ^ 32)) in
+    ap (λ b. nat_lt 0 m && b) (le-ltb m (2 ^ 29) above) ∙ go (nat_lt 0 m)
+  where
+    go : (b : Bool) → (b && false) ≡ false
+    go true = refl
+    go false = refl
+
+-- and no field has another one.
+pub number_unread : (pool : LinkedPool) (T : ℕ) (z : ℤ) → (FitsUnsignedBits 32 z → ⊥) → false ≡ list_any (same_numbered (record { message = T; number = z })) (all_numbered (flat_of pool))
+number_unread pool T (pos m) unfit = sym (no_field T (pos m) (far m unfit) (files_of pool) (flat_of pool) pool.built.0)
+number_unread pool T (negsuc m) unfit = sym (no_field T (negsuc m) refl (files_of pool) (flat_of pool) pool.built.0)

@@ -20,14 +20,13 @@ use Rattle.prost_reflect_base.proofs.Lists.{or_true, same_answers, turned, any_a
 -- A name among names that do not repeat stands not among those before them.
 not_before : (before names : List (List ℕ)) (n : List ℕ) → repeats before names ≡ false → list_any (bytes_eq n) names ≡ true → list_any (bytes_eq n) before ≡ false
 not_before before [] n h some = absurd cc
-not_before before (m ∷ names) n h some = go (bytes_eq n m) refl some
+not_before before (m ∷ names) n h some =
+    let parts = or_parts (list_any (bytes_eq m) before) (repeats (before ++ m ∷ []) names) h in
+    go parts.0 (λ later. not_before (before ++ m ∷ []) names n parts.1 later) (bytes_eq n m) refl some
   where
-    parts : (list_any (bytes_eq m) before ≡ false) × (repeats (before ++ m ∷ []) names ≡ false)
-    parts = or_parts (list_any (bytes_eq m) before) (repeats (before ++ m ∷ []) names) h
-
-    go : (b : Bool) → bytes_eq n m ≡ b → (b || list_any (bytes_eq n) names) ≡ true → list_any (bytes_eq n) before ≡ false
-    go true same some = ap (λ k. list_any (bytes_eq k) before) ((bytes_eq-Decides n m).0 same) ∙ parts.0
-    go false other some = (or_parts (list_any (bytes_eq n) before) (list_any (bytes_eq n) (m ∷ [])) (sym (list_any-append (bytes_eq n) before (m ∷ [])) ∙ not_before (before ++ m ∷ []) names n parts.1 some)).0
+    go : list_any (bytes_eq m) before ≡ false → (list_any (bytes_eq n) names ≡ true → list_any (bytes_eq n) (before ++ m ∷ []) ≡ false) → (b : Bool) → bytes_eq n m ≡ b → (b || list_any (bytes_eq n) names) ≡ true → list_any (bytes_eq n) before ≡ false
+    go new more true same some = ap (λ k. list_any (bytes_eq k) before) ((bytes_eq-Decides n m).0 same) ∙ new
+    go new more false other some = (or_parts (list_any (bytes_eq n) before) (list_any (bytes_eq n) (m ∷ [])) (sym (list_any-append (bytes_eq n) before (m ∷ [])) ∙ more some)).0
 
 -- The full names of items, and behind each those inside it.
 abbrev pub all_names : {X : Type 0} → (X → List ℕ) → (X → List (List ℕ)) → List X → List (List ℕ)
@@ -161,7 +160,7 @@ module _ {X : Type 0} (full_name : X → List ℕ) (inside texts : X → List (L
   pub inside_cut : (before : List (List ℕ)) (xs : List X) (text : List ℕ) → AreScoped xs → repeats before (all_names full_name inside xs) ≡ false → cut_at_a_dot (holds_name full_name texts xs) [] text ≡ list_any (λ x. list_any (bytes_eq text) (inside x)) xs
   inside_cut before xs text each alone =
       same_answers (cut_at_a_dot (holds_name full_name texts xs) [] text) (list_any (λ x. list_any (bytes_eq text) (inside x)) xs) (
-        λ e.
-            let cut : Cut (holds_name full_name texts xs) [] text = cut_where (holds_name full_name texts xs) [] text e in
-            held xs text cut.scope cut.name (find (λ x. bytes_eq (full_name x) cut.scope) xs) each cut.whole refl cut.passes
+      λ e.
+      let cut : Cut (holds_name full_name texts xs) [] text = cut_where (holds_name full_name texts xs) [] text e in
+      held xs text cut.scope cut.name (find (λ x. bytes_eq (full_name x) cut.scope) xs) each cut.whole refl cut.passes
       ) (λ e. holds before xs text each alone e)

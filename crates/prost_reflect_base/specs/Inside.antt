@@ -7,7 +7,6 @@ use Rattle.prost_reflect_types.specs.declared.OneofDescriptorProto.{OneofDescrip
 use Rattle.prost_reflect_types.specs.declared.MethodDescriptorProto.{MethodDescriptorProto}
 use Rattle.prost_reflect_tables.specs.Names.{text_or_empty}
 use Rattle.prost_reflect_tables.specs.Flat.{DefinitionRow, FlatMessageRow, FlatServiceRow, FlatRows}
-use Rattle.prost_reflect_tables.specs.Faults.{enum_names, names_in_messages, names_in_services, names_of}
 
 -- OWN NAMES
 
@@ -55,13 +54,9 @@ has_method rows scope name = holds_name service_name method_texts rows.services 
 abbrev pub has_inside : FlatRows → (scope name : List ℕ) → Bool
 has_inside rows scope name = has_member rows scope name || has_method rows scope name
 
--- FULL NAMES
+-- CUTS
 
 -- The text is a scope, a dot and a name that pass the test, where the scope begins with the first text. Names may hold dots.
 abbrev pub cut_at_a_dot : (List ℕ → List ℕ → Bool) → (front : List ℕ) → List ℕ → Bool
 cut_at_a_dot test front [] = false
 cut_at_a_dot test front (b ∷ rest) = (b == 46 && test front rest) || cut_at_a_dot test (front ++ b ∷ []) rest
-
--- The full names of all definitions but the values of enums.
-abbrev pub names_but_of_values : FlatRows → List (List ℕ)
-names_but_of_values rows = names_in_messages rows.messages ++ enum_names rows ++ names_of rows.extensions ++ names_in_services rows.services

@@ -75,8 +75,7 @@ impl<'p> Base<'p> {
     fn has_row(&self, place: usize, number: u32) -> bool
         ensures { result ≡ list_any (λ f. f.number == number) (fields_at (pool_rows self.now.pool.now) place) }
     {
-        place < self.pool.message_count()
-            && self.pool.tables().field_place(place, number).is_some()
+        place < self.pool.message_count() && self.pool.tables().field_place(place, number).is_some()
     }
 
     /// Whether a field or an extension of the message type at a place has the number.

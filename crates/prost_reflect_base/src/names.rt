@@ -3,15 +3,15 @@
 //! The full name of a field, a oneof or a method is that of what it stands in, a dot and its own name, which may hold dots too.
 //! So the text is cut at each of its dots. A value of an enum stands in the scope around its enum, and is looked up as it is.
 
-ghost use Rattle.std.specs.Prelude.{◌≡◌, ◌<◌, ◌+◌, [], drop, length, map, slice_index, take};
+ghost use Rattle.std.specs.Prelude.{◌≡◌, ◌<◌, ◌+◌, ◌||◌, [], drop, length, map, slice_index, take};
 ghost use Rattle.std.specs.List.{list_any};
 ghost use Rattle.std.specs.Str.{bytes_eq};
 ghost use Rattle.prost_reflect_tables.specs.CatalogRows.{method_table_row};
-ghost use Rattle.prost_reflect_tables.specs.Faults.{enum_names, message_names, names_of};
+ghost use Rattle.prost_reflect_tables.specs.Faults.{enum_names, full_names, message_names, names_of};
 ghost use Rattle.prost_reflect_tables.specs.LinkedCatalog.{service_names};
 ghost use Rattle.prost_reflect_tables.specs.Rows.{oneof_row};
 ghost use Rattle.prost_reflect_base.specs.Below.{rows_below};
-ghost use Rattle.prost_reflect_base.specs.Inside.{cut_at_a_dot, has_inside, has_member, has_method, names_but_of_values};
+ghost use Rattle.prost_reflect_base.specs.Inside.{cut_at_a_dot, has_inside, has_member, has_method};
 
 use crate::Base;
 use prost_reflect_tables::{MethodTable, OneofTable};
@@ -27,8 +27,8 @@ fn around_dot(text: &str, place: usize) -> (&str, &str)
     (scope, &text[place + 1..])
 }
 
-/// Whether a oneof has the name.
-fn is_oneof(oneofs: &[OneofTable], name: &str) -> bool
+/// Whether the name is that of a oneof.
+fn is_oneof_name(oneofs: &[OneofTable], name: &str) -> bool
     ensures { result ≡ list_any (λ o. bytes_eq name.now o.id.name) (map oneof_row oneofs.now) }
 {
     for oneof in oneofs {
@@ -39,8 +39,8 @@ fn is_oneof(oneofs: &[OneofTable], name: &str) -> bool
     false
 }
 
-/// Whether a method has the name.
-fn is_method(methods: &[MethodTable], name: &str) -> bool
+/// Whether the name is that of a method.
+fn is_method_name(methods: &[MethodTable], name: &str) -> bool
     ensures { result ≡ list_any (λ m. bytes_eq name.now m.id.name) (map method_table_row methods.now) }
 {
     for method in methods {
@@ -65,6 +65,12 @@ impl Base<'_> {
         self.pool.enum_place(full_name).is_some()
     }
 
+    fn has_value(&self, full_name: &str) -> bool
+        ensures { result ≡ list_any (λ e. list_any (bytes_eq full_name.now) (names_of e.values)) (rows_below self.now).enums }
+    {
+        self.pool.value_place(full_name).is_some()
+    }
+
     fn has_extension(&self, full_name: &str) -> bool
         ensures { result ≡ list_any (bytes_eq full_name.now) (names_of (rows_below self.now).extensions) }
     {
@@ -87,7 +93,7 @@ impl Base<'_> {
         match self.message_place(scope) {
             Some(place) => {
                 self.pool.field_place_by_name(place, name).is_some()
-                    || is_oneof(self.pool.message_table(place).oneofs.as_slice(), name)
+                    || is_oneof_name(self.pool.message_table(place).oneofs.as_slice(), name)
             }
             None => false,
         }
@@ -98,7 +104,7 @@ impl Base<'_> {
         ensures { result ≡ has_method (rows_below self.now) scope.now name.now }
     {
         match self.pool.service_place(scope) {
-            Some(place) => is_method(self.pool.service_table(place).methods.as_slice(), name),
+            Some(place) => is_method_name(self.pool.service_table(place).methods.as_slice(), name),
             None => false,
         }
     }
@@ -124,12 +130,22 @@ impl Base<'_> {
 impl Base<'_> {
     /// Whether a definition other than the value of an enum has the full name.
     fn has_name_but_of_values(&self, full_name: &str) -> bool
-        ensures { result ≡ list_any (bytes_eq full_name.now) (names_but_of_values (rows_below self.now)) }
+        ensures { let rows = rows_below self.now in let test = bytes_eq full_name.now in
+            result ≡ (list_any test (message_names rows) || list_any test (enum_names rows) || list_any test (names_of rows.extensions)
+            || list_any test (service_names rows) || cut_at_a_dot (has_inside rows) [] full_name.now) }
     {
         self.has_message(full_name)
             || self.has_enum(full_name)
             || self.has_extension(full_name)
             || self.has_service(full_name)
             || self.has_inside(full_name)
+    }
+
+    /// Whether a definition has the full name: a message type, a field or an extension, a oneof, an enum, a value of an enum, a
+    /// service or a method.
+    pub fn has_name(&self, full_name: &str) -> bool
+        ensures { result ≡ list_any (bytes_eq full_name.now) (full_names (rows_below self.now)) }
+    {
+        self.has_name_but_of_values(full_name) || self.has_value(full_name)
     }
 }

@@ -59,7 +59,8 @@ module _ {X : Type 0} (eq : X → X → Bool) where
           ∙ sym (list_any-append (eq n) (b ++ y ∷ []) xs ∙ ap (λ p. p || list_any (eq n) xs) (list_any-append (eq n) b (y ∷ [])))))
 
   -- In front of further ones, the same.
-  pub again_under : (b p xs ys : List X) → ((c : List X) → repeats_by eq c xs ≡ repeats_by eq c ys) → repeats_by eq b (p ++ xs) ≡ repeats_by eq b (p ++ ys)
+  pub again_under : (b p xs ys : List X) → ((c : List X) → repeats_by eq c xs ≡ repeats_by eq c ys) →
+      repeats_by eq b (p ++ xs) ≡ repeats_by eq b (p ++ ys)
   again_under b p xs ys h = again_append b p xs ∙ (ap (λ q. repeats_by eq b p || q) (h (b ++ p)) ∙ sym (again_append b p ys))
 
   module _ (turned : (a b : X) → eq a b ≡ eq b a) where
@@ -86,7 +87,9 @@ module _ {X : Type 0} (eq : X → X → Bool) where
         ∙ (ap₂ (λ p q. repeats_by eq b ys || ((repeats_by eq b xs || p) || q)) (meets_turned xs ys) (again_alike ((b ++ xs) ++ ys) ((b ++ ys) ++ xs) zs both)
         ∙ sym (opened ys xs)))
       where
-        opened : (us vs : List X) → repeats_by eq b (us ++ (vs ++ zs)) ≡ repeats_by eq b us || ((repeats_by eq b vs || meets eq us vs) || repeats_by eq ((b ++ us) ++ vs) zs)
+        opened : (us vs : List X) →
+            repeats_by eq b (us ++ (vs ++ zs))
+            ≡ repeats_by eq b us || ((repeats_by eq b vs || meets eq us vs) || repeats_by eq ((b ++ us) ++ vs) zs)
         opened us vs =
             again_append b us (vs ++ zs)
             ∙ ap (λ p. repeats_by eq b us || p) (again_append (b ++ us) vs zs ∙ ap (λ p. p || repeats_by eq ((b ++ us) ++ vs) zs) (again_parts b us vs))

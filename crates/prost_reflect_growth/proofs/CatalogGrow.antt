@@ -1,6 +1,6 @@
 -- The parts of the catalog grow.
 use Rattle.std.specs.Prelude.{◌≡◌, ◌+◌, ◌<◌, ◌≤◌, ◌∷◌, ◌++◌}
-use Rattle.prost_reflect_growth.proofs.Common.{list_any, IfSome, Global, ℕ, Bool, true, false, cond, List, [], length, map, Option, Some, None, refl, ap, ap₂, ◌∙◌, arith, append-nil, zero-add, string_bytes, String, unwrap_or, is_none, or_parts, ltb-true, lt-ltb, ne_eqb, map-append, FileDescriptorProto, MethodDescriptorProto, MethodRow, ServiceRow, Checked, any_field, dependency_missing, name_place, file_names, message_names, names_nothing, type_unknown, extendee_unknown, method_type_unknown, unknown_type, DefinitionRow, FlatMessageRow, FlatEnumRow, FlatServiceRow, FlatRows, behind, flattened, places_from, each_from, top_file, file_place, dependency_places, import_at, linked_file, linked_lists, enum_lists, linked_method, linked_service, links_of, is_place, linked_identity, extended_place, linked_rows, linked_field, text_or_empty, MessageRow, TableRows}
+use Rattle.prost_reflect_growth.proofs.Common.{list_any, IfSome, Global, ℕ, Bool, true, false, cond, List, [], length, map, Option, Some, None, refl, ap, ap₂, ◌∙◌, arith, append-nil, zero-add, string_bytes, String, unwrap_or, is_none, or_parts, ltb-true, lt-ltb, ne_eqb, map-append, FileDescriptorProto, MethodDescriptorProto, MethodRow, ServiceRow, Checked, any_field, dependency_missing, name_place, file_names, message_names, names_nothing, type_unknown, extendee_unknown, method_type_unknown, DefinitionRow, FlatMessageRow, FlatEnumRow, FlatServiceRow, FlatRows, behind, flattened, places_from, each_from, top_file, file_place, dependency_places, import_at, linked_file, linked_lists, enum_lists, linked_method, linked_service, links_of, is_place, linked_identity, extended_place, linked_rows, linked_field, text_or_empty, MessageRow, TableRows}
 use Rattle.prost_reflect_tables.specs.declared.error.PoolError.TheVariants as errors
 use Rattle.prost_reflect_tables.proofs.CatalogParts.{same_file, same_lists}
 use Rattle.prost_reflect_tables.proofs.CatalogRanges.{each_length}
@@ -44,17 +44,20 @@ top_below F n d le h = go (is_none d.parent)
 
 -- FILES
 
-dependencies_stay : (xs ys : List (List ℕ)) (f : FileDescriptorProto) → dependency_missing xs f ≡ false → dependency_places (xs ++ ys) f ≡ dependency_places xs f
+dependencies_stay : (xs ys : List (List ℕ)) (f : FileDescriptorProto) → dependency_missing xs f ≡ false →
+    dependency_places (xs ++ ys) f ≡ dependency_places xs f
 dependencies_stay xs ys f h = go f.dependency.items h
   where
-    one : (d : String Global) → is_none (name_place xs (string_bytes d)) ≡ false → file_place (xs ++ ys) (string_bytes d) ≡ file_place xs (string_bytes d)
+    one : (d : String Global) → is_none (name_place xs (string_bytes d)) ≡ false →
+        file_place (xs ++ ys) (string_bytes d) ≡ file_place xs (string_bytes d)
     one d e = ap (λ (p : Option ℕ). unwrap_or p 0) (places_grow xs ys (string_bytes d)) ∙ at (name_place xs (string_bytes d)) e
       where
         at : (p : Option ℕ) → is_none p ≡ false → unwrap_or (or_behind p (length xs) (name_place ys (string_bytes d))) 0 ≡ unwrap_or p 0
         at None e = absurd cc
         at (Some i) e = refl
 
-    go : (ds : List (String Global)) → list_any (λ d. is_none (name_place xs (string_bytes d))) ds ≡ false → map (λ d. file_place (xs ++ ys) (string_bytes d)) ds ≡ map (λ d. file_place xs (string_bytes d)) ds
+    go : (ds : List (String Global)) → list_any (λ d. is_none (name_place xs (string_bytes d))) ds ≡ false →
+        map (λ d. file_place (xs ++ ys) (string_bytes d)) ds ≡ map (λ d. file_place xs (string_bytes d)) ds
     go [] e = refl
     go (d ∷ ds) e =
         let parts = or_parts (is_none (name_place xs (string_bytes d))) (list_any (λ d. is_none (name_place xs (string_bytes d))) ds) e in
@@ -73,7 +76,8 @@ module _ (files added : List FileDescriptorProto) where
   abbrev old_within : within.FlatWithin (length files) (length olds.messages) olds
   old_within = flattened_within files (length olds.messages) refl
 
-  old_file : (F : ℕ) (f : FileDescriptorProto) → F < length files → dependency_missing (file_names files) f ≡ false → linked_file (file_names files ++ file_names added) (behind olds news) F f ≡ linked_file (file_names files) olds F f
+  old_file : (F : ℕ) (f : FileDescriptorProto) → F < length files → dependency_missing (file_names files) f ≡ false →
+      linked_file (file_names files ++ file_names added) (behind olds news) F f ≡ linked_file (file_names files) olds F f
   old_file F f less found =
       let deps = dependencies_stay (file_names files) (file_names added) f found in
       same_file _ _
@@ -83,7 +87,8 @@ module _ (files added : List FileDescriptorProto) where
       (front_only (λ (s : FlatServiceRow). is_place F (top_file s.definition)) (ServiceFrom (length files) (length olds.messages)) (λ s h. top_above F (length files) s.definition less h.file) olds.services news.services new_from.services)
       deps (ap (λ ds. map (import_at ds) f.public_dependency.items) deps) refl
 
-  new_file : (names : List (List ℕ)) (F : ℕ) (f : FileDescriptorProto) → length files ≤ F → linked_file names (behind olds news) F f ≡ added_file names olds news F f
+  new_file : (names : List (List ℕ)) (F : ℕ) (f : FileDescriptorProto) → length files ≤ F →
+      linked_file names (behind olds news) F f ≡ added_file names olds news F f
   new_file names F f le =
       same_file _ _
       (behind_only (λ (m : FlatMessageRow). is_place F (top_file m.definition)) (within.MessageWithin (length files) (length olds.messages)) (λ m h. top_below F (length files) m.definition le h.definition.file) olds.messages news.messages old_within.messages)
@@ -92,13 +97,17 @@ module _ (files added : List FileDescriptorProto) where
       (behind_only (λ (s : FlatServiceRow). is_place F (top_file s.definition)) (within.ServiceWithin (length files) (length olds.messages)) (λ s h. top_below F (length files) s.definition le h.file) olds.services news.services old_within.services)
       refl refl refl
 
-  old_files : (F : ℕ) (fs : List FileDescriptorProto) → F + length fs ≤ length files → list_any (dependency_missing (file_names files)) fs ≡ false → each_from (linked_file (file_names files ++ file_names added) (behind olds news)) F fs ≡ each_from (linked_file (file_names files) olds) F fs
+  old_files : (F : ℕ) (fs : List FileDescriptorProto) → F + length fs ≤ length files →
+      list_any (dependency_missing (file_names files)) fs ≡ false →
+      each_from (linked_file (file_names files ++ file_names added) (behind olds news)) F fs
+      ≡ each_from (linked_file (file_names files) olds) F fs
   old_files F [] le found = refl
   old_files F (f ∷ fs) le found =
       let parts = or_parts (dependency_missing (file_names files) f) (list_any (dependency_missing (file_names files)) fs) found in
       ap₂ (λ x l. x ∷ l) (old_file F f (omega arith) parts.0) (old_files (F + 1) fs (omega arith) parts.1)
 
-  new_files : (names : List (List ℕ)) (F : ℕ) (fs : List FileDescriptorProto) → length files ≤ F → each_from (linked_file names (behind olds news)) F fs ≡ each_from (added_file names olds news) F fs
+  new_files : (names : List (List ℕ)) (F : ℕ) (fs : List FileDescriptorProto) → length files ≤ F →
+      each_from (linked_file names (behind olds news)) F fs ≡ each_from (added_file names olds news) F fs
   new_files names F [] le = refl
   new_files names F (f ∷ fs) le = ap₂ (λ x l. x ∷ l) (new_file names F f le) (new_files names (F + 1) fs (omega arith))
 
@@ -115,21 +124,22 @@ files_grow files added checked =
 
 -- SERVICES
 
-unknown_parts : (rows : FlatRows) → unknown_type rows ≡ false → (any_field (type_unknown rows) rows ≡ false) × (list_any (extendee_unknown rows) rows.extensions ≡ false) × (list_any (λ (s : FlatServiceRow). list_any (method_type_unknown rows) s.methods) rows.services ≡ false)
-unknown_parts rows h = three (any_field (type_unknown rows) rows) (list_any (extendee_unknown rows) rows.extensions) (list_any (λ (s : FlatServiceRow). list_any (method_type_unknown rows) s.methods) rows.services) h
-
-method_stays : (old new : FlatRows) (d : DefinitionRow MethodDescriptorProto) → method_type_unknown old d ≡ false → linked_method (links_of (behind old new)) d ≡ linked_method (links_of old) d
+method_stays : (old new : FlatRows) (d : DefinitionRow MethodDescriptorProto) → method_type_unknown old d ≡ false →
+    linked_method (links_of (behind old new)) d ≡ linked_method (links_of old) d
 method_stays old new d h =
     let parts = or_parts (names_nothing (message_names old) d.proto.input_type) (names_nothing (message_names old) d.proto.output_type) h in
     ap₂ (λ (a b : Option ℕ). record { id = linked_identity d.proto.name d; input = unwrap_or a 0; output = unwrap_or b 0 }) (message_stays old new d.proto.input_type parts.0) (message_stays old new d.proto.output_type parts.1)
 
-services_stay : (old new : FlatRows) (ss : List FlatServiceRow) → list_any (λ (s : FlatServiceRow). list_any (method_type_unknown old) s.methods) ss ≡ false → map (linked_service (links_of (behind old new))) ss ≡ map (linked_service (links_of old)) ss
+services_stay : (old new : FlatRows) (ss : List FlatServiceRow) →
+    list_any (λ (s : FlatServiceRow). list_any (method_type_unknown old) s.methods) ss ≡ false →
+    map (linked_service (links_of (behind old new))) ss ≡ map (linked_service (links_of old)) ss
 services_stay old new [] h = refl
 services_stay old new (s ∷ ss) h =
     let parts = or_parts (list_any (method_type_unknown old) s.methods) (list_any (λ (s : FlatServiceRow). list_any (method_type_unknown old) s.methods) ss) h in
     ap₂ (λ (ms : List MethodRow) (l : List ServiceRow). record { id = linked_identity s.definition.proto.name s.definition; methods = ms } ∷ l) (methods s.methods parts.0) (services_stay old new ss parts.1)
   where
-    methods : (ds : List (DefinitionRow MethodDescriptorProto)) → list_any (method_type_unknown old) ds ≡ false → map (linked_method (links_of (behind old new))) ds ≡ map (linked_method (links_of old)) ds
+    methods : (ds : List (DefinitionRow MethodDescriptorProto)) → list_any (method_type_unknown old) ds ≡ false →
+        map (linked_method (links_of (behind old new))) ds ≡ map (linked_method (links_of old)) ds
     methods [] h = refl
     methods (d ∷ ds) h =
         let parts = or_parts (method_type_unknown old d) (list_any (method_type_unknown old) ds) h in
@@ -140,7 +150,8 @@ services_grow files added checked =
     let o = flattened files in
     let n = added_rows files added in
     map-append (linked_service (links_of (behind o n))) o.services n.services
-    ∙ ap (λ l. l ++ map (linked_service (links_of (behind o n))) n.services) (services_stay o n o.services (unknown_parts (flattened files) (checked errors.UnknownType)).2)
+    ∙ ap (λ l. l ++ map (linked_service (links_of (behind o n))) n.services)
+    (services_stay o n o.services (three (any_field (type_unknown o) o) (list_any (extendee_unknown o) o.extensions) _ (checked errors.UnknownType)).2)
 
 -- THE LISTS OF AN OLD MESSAGE
 
@@ -164,7 +175,7 @@ lists_grow files added T before after checked inside =
     (front_only (λ (m : FlatMessageRow). is_place T m.definition.parent) (MessageFrom F M) (λ m h. above T M m.definition.parent less h.definition.parent) o.messages n.messages from.messages)
     (front_only (λ (e : FlatEnumRow). is_place T e.definition.parent) (EnumFrom F M) (λ e h. above T M e.definition.parent less h.parent) o.enums n.enums from.enums)
     (front_only (λ (d : FieldDef). is_place T d.parent) (FieldFrom F M) (λ d h. above T M d.parent less h.parent) o.extensions n.extensions from.extensions)
-    (places_both test 0 o.extensions n.extensions ∙ ap₂ (λ x y. x ++ y) (extending_stays o n T 0 o.extensions (unknown_parts o (checked errors.UnknownType)).1) (ap (λ k. places_from test k n.extensions) (zero-add (length o.extensions))))
+    (places_both test 0 o.extensions n.extensions ∙ ap₂ (λ x y. x ++ y) (extending_stays o n T 0 o.extensions (three _ _ _ (checked errors.UnknownType)).1) (ap (λ k. places_from test k n.extensions) (zero-add (length o.extensions))))
     refl refl refl
 
 pub lists_stay : ListsStay
@@ -187,7 +198,7 @@ lists_added files added T m checked le =
     let stands = old_within files added in
     let links = links_of (behind o n) in
     let test = λ (d : FieldDef). is_place T (extended_place links d) in
-    let none : places_from test 0 o.extensions ≡ [] = none_placed (linked_field links true) test 0 o.extensions (ap (map (linked_field links true)) (none_extended o n T o.extensions (unknown_parts o (checked errors.UnknownType)).1 le)) in
+    let none : places_from test 0 o.extensions ≡ [] = none_placed (linked_field links true) test 0 o.extensions (ap (map (linked_field links true)) (none_extended o n T o.extensions (three _ _ _ (checked errors.UnknownType)).1 le)) in
     same_lists _ _
     (behind_only (λ (m : FlatMessageRow). is_place T m.definition.parent) (within.MessageWithin F M) (λ m h. below T M m.definition.parent le h.definition.parent) o.messages n.messages stands.messages)
     (behind_only (λ (e : FlatEnumRow). is_place T e.definition.parent) (within.EnumWithin F M) (λ e h. below T M e.definition.parent le h.parent) o.enums n.enums stands.enums)

@@ -18,7 +18,8 @@ any_more : {X : Type 0} (p : X → Bool) (xs ys : List X) → list_any p xs ≡ 
 any_more p xs ys h = list_any-append p xs ys ∙ rw h refl
 
 -- Likewise where old items that pass none of the former tests pass none now.
-none_still : {X : Type 0} (p t q : X → Bool) (xs : List X) → ((x : X) → p x ≡ false → t x ≡ false → q x ≡ false) → list_any p xs ≡ false → list_any t xs ≡ false → list_any q xs ≡ false
+none_still : {X : Type 0} (p t q : X → Bool) (xs : List X) → ((x : X) → p x ≡ false → t x ≡ false → q x ≡ false) → list_any p xs ≡ false →
+    list_any t xs ≡ false → list_any q xs ≡ false
 none_still p t q [] h a b = refl
 none_still p t q (x ∷ xs) h a b =
     let ps = or_parts (p x) (list_any p xs) a in
@@ -30,7 +31,8 @@ or₂ e f = ap₂ (λ x y. x || y) e f
 
 -- TESTS OF ALL FIELDS
 
-parts_of : (p : FieldDef → Bool) (rows : FlatRows) → any_field p rows ≡ false → (list_any (λ (m : FlatMessageRow). list_any p m.fields) rows.messages ≡ false) × (list_any p rows.extensions ≡ false)
+parts_of : (p : FieldDef → Bool) (rows : FlatRows) → any_field p rows ≡ false →
+    (list_any (λ (m : FlatMessageRow). list_any p m.fields) rows.messages ≡ false) × (list_any p rows.extensions ≡ false)
 parts_of p rows h = or_parts (list_any (λ (m : FlatMessageRow). list_any p m.fields) rows.messages) (list_any p rows.extensions) h
 
 fields_more : (p : FieldDef → Bool) (old new : FlatRows) → any_field p old ≡ false → any_field p (behind old new) ≡ any_field p new
@@ -38,7 +40,8 @@ fields_more p old new h =
     let s = parts_of p old h in
     ap₂ (λ a b. a || b) (any_more (λ (m : FlatMessageRow). list_any p m.fields) old.messages new.messages s.0) (any_more p old.extensions new.extensions s.1)
 
-still_fields : (p t q : FieldDef → Bool) (rows : FlatRows) → ((d : FieldDef) → p d ≡ false → t d ≡ false → q d ≡ false) → any_field p rows ≡ false → any_field t rows ≡ false → any_field q rows ≡ false
+still_fields : (p t q : FieldDef → Bool) (rows : FlatRows) → ((d : FieldDef) → p d ≡ false → t d ≡ false → q d ≡ false) →
+    any_field p rows ≡ false → any_field t rows ≡ false → any_field q rows ≡ false
 still_fields p t q rows h a b =
     let ps = parts_of p rows a in
     let qs = parts_of t rows b in
@@ -50,10 +53,12 @@ found_still : (xs ys : List (List ℕ)) (o : Option (String Global)) → names_n
 found_still xs ys None h = refl
 found_still xs ys (Some text) h = ap is_none (named_stays xs ys (Some text) h) ∙ h
 
-message_found : (old new : FlatRows) (o : Option (String Global)) → names_nothing (message_names old) o ≡ false → names_nothing (message_names (behind old new)) o ≡ false
+message_found : (old new : FlatRows) (o : Option (String Global)) → names_nothing (message_names old) o ≡ false →
+    names_nothing (message_names (behind old new)) o ≡ false
 message_found old new o h = ap (λ names. names_nothing names o) (message_names_more old new) ∙ found_still (message_names old) (message_names new) o h
 
-enum_found : (old new : FlatRows) (o : Option (String Global)) → names_nothing (enum_names old) o ≡ false → names_nothing (enum_names (behind old new)) o ≡ false
+enum_found : (old new : FlatRows) (o : Option (String Global)) → names_nothing (enum_names old) o ≡ false →
+    names_nothing (enum_names (behind old new)) o ≡ false
 enum_found old new o h = ap (λ names. names_nothing names o) (enum_names_more old new) ∙ found_still (enum_names old) (enum_names new) o h
 
 guarded : (a b c : Bool) → (b ≡ false → c ≡ false) → a && b ≡ false → a && c ≡ false
@@ -65,13 +70,15 @@ type_still old new d h =
     let s = or_parts (is_message_type d.proto.type_ && names_nothing (message_names old) d.proto.type_name) (is_enum_type d.proto.type_ && names_nothing (enum_names old) d.proto.type_name) h in
     or_from _ _ (guarded (is_message_type d.proto.type_) _ _ (message_found old new d.proto.type_name) s.0) (guarded (is_enum_type d.proto.type_) _ _ (enum_found old new d.proto.type_name) s.1)
 
-method_still : (old new : FlatRows) (d : DefinitionRow MethodDescriptorProto) → method_type_unknown old d ≡ false → method_type_unknown (behind old new) d ≡ false
+method_still : (old new : FlatRows) (d : DefinitionRow MethodDescriptorProto) → method_type_unknown old d ≡ false →
+    method_type_unknown (behind old new) d ≡ false
 method_still old new d h =
     let s = or_parts (names_nothing (message_names old) d.proto.input_type) (names_nothing (message_names old) d.proto.output_type) h in
     or_from _ _ (message_found old new d.proto.input_type s.0) (message_found old new d.proto.output_type s.1)
 
 -- The message that a text names is what it was.
-named_message_stays : (old new : FlatRows) (o : Option (String Global)) → names_nothing (message_names old) o ≡ false → message_named (behind old new) o ≡ message_named old o
+named_message_stays : (old new : FlatRows) (o : Option (String Global)) → names_nothing (message_names old) o ≡ false →
+    message_named (behind old new) o ≡ message_named old o
 named_message_stays old new None h = refl
 named_message_stays old new (Some text) h =
     let f : FoundIn message_name old.messages (Some text) = found_in message_name old.messages (Some text) refl h in
@@ -80,7 +87,8 @@ named_message_stays old new (Some text) h =
     ap (λ (p : Option ℕ). option_and_then (λ k. slice_get (old.messages ++ new.messages) k) p) place
     ∙ (front_at old.messages new.messages f.place f.item f.at ∙ sym (named_there old (Some text) f))
 
-outside_still : (old new : FlatRows) (d : FieldDef) → extension_outside old d ≡ false → extendee_unknown old d ≡ false → extension_outside (behind old new) d ≡ false
+outside_still : (old new : FlatRows) (d : FieldDef) → extension_outside old d ≡ false → extendee_unknown old d ≡ false →
+    extension_outside (behind old new) d ≡ false
 outside_still old new d h u = ap (is_out_of (number_or_zero d.proto.number)) (named_message_stays old new d.proto.extendee u) ∙ h
 
 -- ENTRIES OF MAPS
@@ -88,34 +96,41 @@ outside_still old new d h u = ap (is_out_of (number_or_zero d.proto.number)) (na
 of_entry_still : (old new : FlatRows) (d : FieldDef) → type_unknown old d ≡ false → is_of_entry (behind old new) d ≡ is_of_entry old d
 of_entry_still old new d u = go (is_message_type d.proto.type_) (or_parts (is_message_type d.proto.type_ && names_nothing (message_names old) d.proto.type_name) (is_enum_type d.proto.type_ && names_nothing (enum_names old) d.proto.type_name) u).0
   where
-    go : (b : Bool) → b && names_nothing (message_names old) d.proto.type_name ≡ false → b && names_entry (behind old new) d.proto.type_name ≡ b && names_entry old d.proto.type_name
+    go : (b : Bool) → b && names_nothing (message_names old) d.proto.type_name ≡ false →
+        b && names_entry (behind old new) d.proto.type_name ≡ b && names_entry old d.proto.type_name
     go true e = ap is_entry_message (named_message_stays old new d.proto.type_name e)
     go false e = refl
 
-wrongly_still : (old new : FlatRows) (d : FieldDef) → wrongly_of_entry old d ≡ false → type_unknown old d ≡ false → wrongly_of_entry (behind old new) d ≡ false
+wrongly_still : (old new : FlatRows) (d : FieldDef) → wrongly_of_entry old d ≡ false → type_unknown old d ≡ false →
+    wrongly_of_entry (behind old new) d ≡ false
 wrongly_still old new d h u = rw (of_entry_still old new d u) h
 
-method_entry_still : (old new : FlatRows) (d : DefinitionRow MethodDescriptorProto) → method_of_entry old d ≡ false → method_type_unknown old d ≡ false → method_of_entry (behind old new) d ≡ false
+method_entry_still : (old new : FlatRows) (d : DefinitionRow MethodDescriptorProto) → method_of_entry old d ≡ false →
+    method_type_unknown old d ≡ false → method_of_entry (behind old new) d ≡ false
 method_entry_still old new d h u =
     let s = or_parts (names_nothing (message_names old) d.proto.input_type) (names_nothing (message_names old) d.proto.output_type) u in
     ap₂ (λ a b. is_entry_message a || is_entry_message b) (named_message_stays old new d.proto.input_type s.0) (named_message_stays old new d.proto.output_type s.1) ∙ h
 
 -- DEFAULTS
 
-bad_still : (old new : FlatRows) (d : FieldDef) → type_missing d ≡ false → type_unknown old d ≡ false → default_bad (links_of (behind old new)) d ≡ default_bad (links_of old) d
+bad_still : (old new : FlatRows) (d : FieldDef) → type_missing d ≡ false → type_unknown old d ≡ false →
+    default_bad (links_of (behind old new)) d ≡ default_bad (links_of old) d
 unfolding default_bad
 bad_still old new d m u = ap (λ o. default_misplaced d || (not (is_float_type d.proto.type_) && (is_some d.proto.default_value && is_none o))) (stays old new d m u).default
 
-float_still : (old new : FlatRows) (d : FieldDef) → type_missing d ≡ false → type_unknown old d ≡ false → float_default_bad (links_of (behind old new)) d ≡ float_default_bad (links_of old) d
+float_still : (old new : FlatRows) (d : FieldDef) → type_missing d ≡ false → type_unknown old d ≡ false →
+    float_default_bad (links_of (behind old new)) d ≡ float_default_bad (links_of old) d
 unfolding float_default_bad
 float_still old new d m u = ap (λ o. is_float_type d.proto.type_ && (is_some d.proto.default_value && is_none o)) (stays old new d m u).default
 
 -- DEPENDENCIES
 
-dependency_still : (xs ys : List (List ℕ)) (f : FileDescriptorProto) → dependency_missing xs f ≡ false → dependency_missing (xs ++ ys) f ≡ false
+dependency_still : (xs ys : List (List ℕ)) (f : FileDescriptorProto) → dependency_missing xs f ≡ false →
+    dependency_missing (xs ++ ys) f ≡ false
 dependency_still xs ys f h = none_still (λ d. is_none (name_place xs (string_bytes d))) (λ d. false) (λ d. is_none (name_place (xs ++ ys) (string_bytes d))) f.dependency.items one h (nothing f.dependency.items)
   where
-    one : (d : String Global) → is_none (name_place xs (string_bytes d)) ≡ false → false ≡ false → is_none (name_place (xs ++ ys) (string_bytes d)) ≡ false
+    one : (d : String Global) → is_none (name_place xs (string_bytes d)) ≡ false → false ≡ false →
+        is_none (name_place (xs ++ ys) (string_bytes d)) ≡ false
     one d e _ = ap is_none (places_grow xs ys (string_bytes d)) ∙ go (name_place xs (string_bytes d)) e
       where
         go : (p : Option ℕ) → is_none p ≡ false → is_none (or_behind p (length xs) (name_place ys (string_bytes d))) ≡ false
@@ -184,10 +199,13 @@ parted {X} eq turned b m n e f x y s t =
         let back : x ++ ((n ++ f) ++ (y ++ (s ++ t))) ≡ x ++ (n ++ (f ++ (y ++ (s ++ t)))) = simp append_assoc refl in
         ap (repeats_by eq c) front ∙ (again_swap eq turned c (n ++ f) x (y ++ (s ++ t)) ∙ (ap (repeats_by eq c) back ∙ again_under eq c x (n ++ (f ++ (y ++ (s ++ t)))) (s ++ (n ++ (f ++ (y ++ t)))) third))
 
-    first : (c : List X) → repeats_by eq c (n ++ (e ++ (f ++ (x ++ (y ++ (s ++ t)))))) ≡ repeats_by eq c (e ++ (x ++ (s ++ (n ++ (f ++ (y ++ t))))))
+    first : (c : List X) →
+        repeats_by eq c (n ++ (e ++ (f ++ (x ++ (y ++ (s ++ t)))))) ≡ repeats_by eq c (e ++ (x ++ (s ++ (n ++ (f ++ (y ++ t))))))
     first c = again_swap eq turned c n e (f ++ (x ++ (y ++ (s ++ t)))) ∙ again_under eq c e (n ++ (f ++ (x ++ (y ++ (s ++ t))))) (x ++ (s ++ (n ++ (f ++ (y ++ t))))) second
 
-names_more : (old new : FlatRows) → full_names (behind old new) ≡ (names_in_messages old.messages ++ names_in_messages new.messages) ++ (names_in_enums old.enums ++ names_in_enums new.enums) ++ (names_of old.extensions ++ names_of new.extensions) ++ (names_in_services old.services ++ names_in_services new.services)
+names_more : (old new : FlatRows) →
+    full_names (behind old new)
+    ≡ (names_in_messages old.messages ++ names_in_messages new.messages) ++ (names_in_enums old.enums ++ names_in_enums new.enums) ++ (names_of old.extensions ++ names_of new.extensions) ++ (names_in_services old.services ++ names_in_services new.services)
 names_more old new =
     ap₂ (λ a b. a ++ b) (ap₂ (λ a b. a ++ b) (ap₂ (λ a b. a ++ b) (messages_names old.messages new.messages) (enums_names old.enums new.enums)) (map-append (λ (d : FieldDef). d.full_name) old.extensions new.extensions)) (services_names old.services new.services)
 
@@ -205,25 +223,29 @@ numbered_more i (m ∷ xs) ys =
     let e : i + 1 + length xs ≡ i + length (m ∷ xs) = omega arith in
     rw (← e) (ap (λ l. numbered_fields i m.fields ++ l) (numbered_more (i + 1) xs ys) ∙ sym (append_assoc (numbered_fields i m.fields) (numbered_in (i + 1) xs) (numbered_in (i + 1 + length xs) ys)))
 
-extensions_both : (rows : FlatRows) (xs ys : List FieldDef) → numbered_extensions rows (xs ++ ys) ≡ numbered_extensions rows xs ++ numbered_extensions rows ys
+extensions_both : (rows : FlatRows) (xs ys : List FieldDef) →
+    numbered_extensions rows (xs ++ ys) ≡ numbered_extensions rows xs ++ numbered_extensions rows ys
 extensions_both rows [] ys = refl
 extensions_both rows (d ∷ xs) ys =
     let here = numbered_at (number_or_zero d.proto.number) (place_named (message_names rows) d.proto.extendee) in
     ap (λ l. here ++ l) (extensions_both rows xs ys) ∙ sym (append_assoc here (numbered_extensions rows xs) (numbered_extensions rows ys))
 
-extensions_numbered : (old new : FlatRows) (ds : List FieldDef) → list_any (extendee_unknown old) ds ≡ false → numbered_extensions (behind old new) ds ≡ numbered_extensions old ds
+extensions_numbered : (old new : FlatRows) (ds : List FieldDef) → list_any (extendee_unknown old) ds ≡ false →
+    numbered_extensions (behind old new) ds ≡ numbered_extensions old ds
 extensions_numbered old new [] u = refl
 extensions_numbered old new (d ∷ ds) u =
     let us = or_parts (extendee_unknown old d) (list_any (extendee_unknown old) ds) u in
     ap₂ (λ p l. numbered_at (number_or_zero d.proto.number) p ++ l) (extendee_stays old new d us.0) (extensions_numbered old new ds us.1)
 
-crossed : {X : Type 0} (eq : X → X → Bool) → ((a b : X) → eq a b ≡ eq b a) → (b m n x y : List X) → repeats_by eq b ((m ++ n) ++ (x ++ y)) ≡ repeats_by eq b ((m ++ x) ++ (n ++ y))
+crossed : {X : Type 0} (eq : X → X → Bool) → ((a b : X) → eq a b ≡ eq b a) → (b m n x y : List X) →
+    repeats_by eq b ((m ++ n) ++ (x ++ y)) ≡ repeats_by eq b ((m ++ x) ++ (n ++ y))
 crossed eq turned b m n x y =
     ap (repeats_by eq b) (append_assoc m n (x ++ y))
     ∙ (again_under eq b m (n ++ (x ++ y)) (x ++ (n ++ y)) (λ c. again_swap eq turned c n x y)
     ∙ ap (repeats_by eq b) (sym (append_assoc m x (n ++ y))))
 
-pub duplicate_numbers : (old new : FlatRows) → list_any (extendee_unknown old) old.extensions ≡ false → number_repeats [] (all_numbered old) ≡ false → number_repeats [] (all_numbered (behind old new)) ≡ added_numbers_repeat old new
+pub duplicate_numbers : (old new : FlatRows) → list_any (extendee_unknown old) old.extensions ≡ false →
+    number_repeats [] (all_numbered old) ≡ false → number_repeats [] (all_numbered (behind old new)) ≡ added_numbers_repeat old new
 duplicate_numbers old new u h =
     ap (number_repeats []) (ap₂ (λ a b. a ++ b) (numbered_more 0 old.messages new.messages ∙ ap (λ n. numbered_in 0 old.messages ++ numbered_in n new.messages) (zero-add (length old.messages))) (extensions_both (behind old new) old.extensions new.extensions ∙ ap (λ l. l ++ numbered_extensions (behind old new) new.extensions) (extensions_numbered old new old.extensions u)))
     ∙ (crossed same_numbered turned_numbered [] (numbered_in 0 old.messages) (numbered_in (length old.messages) new.messages) (numbered_extensions old old.extensions) (numbered_extensions (behind old new) new.extensions)
@@ -231,7 +253,8 @@ duplicate_numbers old new u h =
 
 -- A test of fields that stays for those whose type is there.
 module _ (old new : FlatRows) (p q : FieldDef → Bool) (same : (d : FieldDef) → type_missing d ≡ false → type_unknown old d ≡ false → q d ≡ p d) where
-  still_list : (ds : List FieldDef) → list_any p ds ≡ false → list_any type_missing ds ≡ false → list_any (type_unknown old) ds ≡ false → list_any q ds ≡ false
+  still_list : (ds : List FieldDef) → list_any p ds ≡ false → list_any type_missing ds ≡ false → list_any (type_unknown old) ds ≡ false →
+      list_any q ds ≡ false
   still_list [] n m u = refl
   still_list (d ∷ ds) n m u =
       let ns = or_parts (p d) (list_any p ds) n in
@@ -239,7 +262,10 @@ module _ (old new : FlatRows) (p q : FieldDef → Bool) (same : (d : FieldDef) �
       let us = or_parts (type_unknown old d) (list_any (type_unknown old) ds) u in
       or_from (q d) (list_any q ds) (same d ms.0 us.0 ∙ ns.0) (still_list ds ns.1 ms.1 us.1)
 
-  still_messages : (xs : List FlatMessageRow) → list_any (λ (x : FlatMessageRow). list_any p x.fields) xs ≡ false → list_any (λ (x : FlatMessageRow). list_any type_missing x.fields) xs ≡ false → list_any (λ (x : FlatMessageRow). list_any (type_unknown old) x.fields) xs ≡ false → list_any (λ (x : FlatMessageRow). list_any q x.fields) xs ≡ false
+  still_messages : (xs : List FlatMessageRow) → list_any (λ (x : FlatMessageRow). list_any p x.fields) xs ≡ false →
+      list_any (λ (x : FlatMessageRow). list_any type_missing x.fields) xs ≡ false →
+      list_any (λ (x : FlatMessageRow). list_any (type_unknown old) x.fields) xs ≡ false →
+      list_any (λ (x : FlatMessageRow). list_any q x.fields) xs ≡ false
   still_messages [] n m u = refl
   still_messages (x ∷ xs) n m u =
       let ns = or_parts (list_any p x.fields) (list_any (λ (x : FlatMessageRow). list_any p x.fields) xs) n in
@@ -247,7 +273,8 @@ module _ (old new : FlatRows) (p q : FieldDef → Bool) (same : (d : FieldDef) �
       let us = or_parts (list_any (type_unknown old) x.fields) (list_any (λ (x : FlatMessageRow). list_any (type_unknown old) x.fields) xs) u in
       or_from (list_any q x.fields) (list_any (λ (x : FlatMessageRow). list_any q x.fields) xs) (still_list x.fields ns.0 ms.0 us.0) (still_messages xs ns.1 ms.1 us.1)
 
-  defaults_more : any_field p old ≡ false → any_field type_missing old ≡ false → any_field (type_unknown old) old ≡ false → any_field q (behind old new) ≡ any_field q new
+  defaults_more : any_field p old ≡ false → any_field type_missing old ≡ false → any_field (type_unknown old) old ≡ false →
+      any_field q (behind old new) ≡ any_field q new
   defaults_more n m u =
       let ns = parts_of p old n in
       let ms = parts_of type_missing old m in

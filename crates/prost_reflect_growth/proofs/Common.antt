@@ -32,7 +32,7 @@ pub use Rattle.prost_reflect_tables.specs.Checked.{Checked, has_fault}
 pub use Rattle.prost_reflect_tables.specs.DefaultFaults.{default_misplaced, is_float_type}
 unfoldable pub use Rattle.prost_reflect_tables.specs.DefaultFaults.{default_bad, float_default_bad}
 pub use Rattle.prost_reflect_tables.specs.EntryFaults.{entry_bad, wrongly_of_entry, is_of_entry, method_of_entry, names_entry, is_entry_message}
-pub use Rattle.prost_reflect_tables.specs.Faults.{repeats_by, any_field, dependency_missing, name_place, file_names, message_names, names_nothing, type_unknown, extendee_unknown, method_type_unknown, unknown_type, is_unnamed, message_unnamed, enum_unnamed, service_unnamed, syntax_unknown, import_outside, has_oneof_outside, number_bad, message_range_bad, enum_range_bad, type_missing, extendee_missing, method_type_missing, label_bad, repeated_member, is_member, enum_empty, enum_names, full_names, names_of, names_in_messages, names_in_enums, names_in_services, repeats, duplicate_name, place_named, message_named, is_message_type, is_enum_type, Numbered, numbered_fields, numbered_in, numbered_at, numbered_extensions, all_numbered, number_repeats, same_numbered, number_or_zero, is_out_of, extension_outside, is_type}
+pub use Rattle.prost_reflect_tables.specs.Faults.{repeats_by, any_field, dependency_missing, name_place, file_names, message_names, names_nothing, type_unknown, extendee_unknown, method_type_unknown, is_unnamed, message_unnamed, enum_unnamed, service_unnamed, syntax_unknown, import_outside, has_oneof_outside, number_bad, message_range_bad, enum_range_bad, type_missing, extendee_missing, method_type_missing, label_bad, repeated_member, is_member, enum_empty, enum_names, full_names, names_of, names_in_messages, names_in_enums, names_in_services, repeats, duplicate_name, place_named, message_named, is_message_type, is_enum_type, Numbered, numbered_fields, numbered_in, numbered_at, numbered_extensions, all_numbered, number_repeats, same_numbered, number_or_zero, is_out_of, extension_outside, is_type}
 pub use Rattle.prost_reflect_tables.specs.Flat.{DefinitionRow, FlatMessageRow, FlatEnumRow, FlatServiceRow, FlatRows, inside, behind, flattened, file_at, files_from, ScopeRow, Given, Placed, defined, defined_from, field_name, enum_at, enums_from, service_at, services_from, all_from, own_message, message_step, file_scope}
 unfoldable pub use Rattle.prost_reflect_tables.specs.Flat.{message_at}
 pub use Rattle.prost_reflect_tables.specs.FlatViews.{text_list}

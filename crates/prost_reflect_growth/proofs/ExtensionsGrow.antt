@@ -15,7 +15,8 @@ use Rattle.prost_reflect_growth.proofs.RowsGrow.{rows_grow}
 use Rattle.prost_reflect_growth.proofs.Stays.{FieldDef, extendee_stays}
 
 -- The fields of an old message, and those of further extensions.
-fields_grow : (files : List FileDescriptorProto) (old new : FlatRows) (T : ℕ) → Checked files old → is_linked (linked_rows old) ≡ true → T < length (linked_rows old).messages →
+fields_grow : (files : List FileDescriptorProto) (old new : FlatRows) (T : ℕ) → Checked files old → is_linked (linked_rows old) ≡ true →
+    T < length (linked_rows old).messages →
     fields_at (linked_rows (behind old new)) T ≡ in_order (fields_at (linked_rows old) T ++ further old new T)
 fields_grow files old new T checked linked less =
     let there = item_there (linked_rows old).messages T less in
@@ -26,7 +27,8 @@ fields_grow files old new T checked linked less =
     ∙ (ap (λ k. in_order (there.0.fields ++ further old new k)) first
     ∙ ap (λ (o : Option MessageRow). in_order (fields_or_none o ++ further old new T)) (sym there.1)))
 
-extension_grows : (files : List FileDescriptorProto) (old new : FlatRows) (i : ℕ) (d : FieldDef) → Checked files old → is_linked (linked_rows old) ≡ true → slice_get old.extensions i ≡ Some d →
+extension_grows : (files : List FileDescriptorProto) (old new : FlatRows) (i : ℕ) (d : FieldDef) → Checked files old →
+    is_linked (linked_rows old) ≡ true → slice_get old.extensions i ≡ Some d →
     linked_extension (links_of (behind old new)) (linked_rows (behind old new)) d ≡ grown_extension old new (linked_rows old) (linked_extension (links_of old) (linked_rows old) d)
 extension_grows files old new i d checked linked at =
     let x = linked_extension (links_of old) (linked_rows old) d in

@@ -15,7 +15,8 @@ module _ {X : Type 0} (lt : X → X → Bool) (o : IsStrictWeakOrder lt) where
   merged_none [] = refl
   merged_none (y ∷ ys) = ap (λ l. y ∷ l) (merged_none ys)
 
-  passed : (y x : X) (b : Bool) → lt y x ≡ b → (xs ys : List X) → merged lt (x ∷ xs) (y ∷ ys) ≡ cond b (y ∷ merged lt (x ∷ xs) ys) (x ∷ merged lt xs (y ∷ ys))
+  passed : (y x : X) (b : Bool) → lt y x ≡ b → (xs ys : List X) →
+      merged lt (x ∷ xs) (y ∷ ys) ≡ cond b (y ∷ merged lt (x ∷ xs) ys) (x ∷ merged lt xs (y ∷ ys))
   passed y x true e xs ys = rw e refl
   passed y x false e xs ys = rw e refl
 
@@ -31,13 +32,16 @@ module _ {X : Type 0} (lt : X → X → Bool) (o : IsStrictWeakOrder lt) where
   put_merged x [] xs = refl
   put_merged x (y ∷ ys) [] = go (lt y x) refl (put_merged x ys [])
     where
-      go : (b : Bool) → lt y x ≡ b → put_by lt x (merged lt [] ys) ≡ merged lt (x ∷ []) ys → cond b (y ∷ put_by lt x (merged lt [] ys)) (x ∷ y ∷ merged lt [] ys) ≡ merged lt (x ∷ []) (y ∷ ys)
+      go : (b : Bool) → lt y x ≡ b → put_by lt x (merged lt [] ys) ≡ merged lt (x ∷ []) ys →
+          cond b (y ∷ put_by lt x (merged lt [] ys)) (x ∷ y ∷ merged lt [] ys) ≡ merged lt (x ∷ []) (y ∷ ys)
       go true e more = ap (λ l. y ∷ l) more ∙ sym (passed y x true e [] ys)
       go false e more = sym (passed y x false e [] ys)
   put_merged x (y ∷ ys) (s ∷ xs) =
       go (lt y s) (lt s x) (lt y x) refl refl refl (put_merged x ys (s ∷ xs)) (put_merged x (y ∷ ys) xs)
     where
-      go : (b c d : Bool) → lt y s ≡ b → lt s x ≡ c → lt y x ≡ d → put_by lt x (merged lt (s ∷ xs) ys) ≡ merged lt (put_by lt x (s ∷ xs)) ys → put_by lt x (merged lt xs (y ∷ ys)) ≡ merged lt (put_by lt x xs) (y ∷ ys) →
+      go : (b c d : Bool) → lt y s ≡ b → lt s x ≡ c → lt y x ≡ d →
+          put_by lt x (merged lt (s ∷ xs) ys) ≡ merged lt (put_by lt x (s ∷ xs)) ys →
+          put_by lt x (merged lt xs (y ∷ ys)) ≡ merged lt (put_by lt x xs) (y ∷ ys) →
           put_by lt x (merged lt (s ∷ xs) (y ∷ ys)) ≡ merged lt (put_by lt x (s ∷ xs)) (y ∷ ys)
       go true true true e f g one two =
           ap (put_by lt x) (passed y s true e xs ys) ∙ (rw g (ap (λ l. y ∷ l) one) ∙ (ap (λ l. y ∷ merged lt l ys) (put_passed true f) ∙ (sym (passed y s true e (put_by lt x xs) ys) ∙ ap (λ l. merged lt l (y ∷ ys)) (sym (put_passed true f)))))
@@ -73,15 +77,18 @@ module _ {X : Type 0} (lt : X → X → Bool) (o : IsStrictWeakOrder lt) where
 
 -- ANOTHER ORDER THAT AGREES
 
-put_mapped : {X Y : Type 0} (f : X → Y) (lt : X → X → Bool) (gt : Y → Y → Bool) → ((a b : X) → gt (f a) (f b) ≡ lt a b) → (x : X) (xs : List X) → put_by gt (f x) (map f xs) ≡ map f (put_by lt x xs)
+put_mapped : {X Y : Type 0} (f : X → Y) (lt : X → X → Bool) (gt : Y → Y → Bool) → ((a b : X) → gt (f a) (f b) ≡ lt a b) →
+    (x : X) (xs : List X) → put_by gt (f x) (map f xs) ≡ map f (put_by lt x xs)
 put_mapped f lt gt same x [] = refl
 put_mapped f lt gt same x (y ∷ xs) = rw (same y x) (go (lt y x) (put_mapped f lt gt same x xs))
   where
-    go : (b : Bool) → put_by gt (f x) (map f xs) ≡ map f (put_by lt x xs) → cond b (f y ∷ put_by gt (f x) (map f xs)) (f x ∷ f y ∷ map f xs) ≡ map f (cond b (y ∷ put_by lt x xs) (x ∷ y ∷ xs))
+    go : (b : Bool) → put_by gt (f x) (map f xs) ≡ map f (put_by lt x xs) →
+        cond b (f y ∷ put_by gt (f x) (map f xs)) (f x ∷ f y ∷ map f xs) ≡ map f (cond b (y ∷ put_by lt x xs) (x ∷ y ∷ xs))
     go true more = ap (λ l. f y ∷ l) more
     go false more = refl
 
-sorted_mapped : {X Y : Type 0} (f : X → Y) (lt : X → X → Bool) (gt : Y → Y → Bool) → ((a b : X) → gt (f a) (f b) ≡ lt a b) → (xs : List X) → sorted_by gt (map f xs) ≡ map f (sorted_by lt xs)
+sorted_mapped : {X Y : Type 0} (f : X → Y) (lt : X → X → Bool) (gt : Y → Y → Bool) → ((a b : X) → gt (f a) (f b) ≡ lt a b) → (xs : List X) →
+    sorted_by gt (map f xs) ≡ map f (sorted_by lt xs)
 sorted_mapped f lt gt same [] = refl
 sorted_mapped f lt gt same (x ∷ xs) = ap (put_by gt (f x)) (sorted_mapped f lt gt same xs) ∙ put_mapped f lt gt same x (sorted_by lt xs)
 
@@ -97,10 +104,11 @@ module _ {X : Type 0} (lt gt : X → X → Bool) (P : X → Type 0) (same : (a b
 
 -- TEXTS
 
-text_order : {X : Type 0} (text : X → List ℕ) → IsStrictWeakOrder (text_before text)
+pub text_order : {X : Type 0} (text : X → List ℕ) → IsStrictWeakOrder (text_before text)
 text_order text = ranks_by nat_list_cmp_total text
 
-texts_agree : {X Y : Type 0} (f : Y → List ℕ) (g : X → List ℕ) (a b : Y) (x y : X) → f a ≡ g x → f b ≡ g y → text_before f a b ≡ text_before g x y
+texts_agree : {X Y : Type 0} (f : Y → List ℕ) (g : X → List ℕ) (a b : Y) (x y : X) → f a ≡ g x → f b ≡ g y →
+    text_before f a b ≡ text_before g x y
 texts_agree f g a b x y p q = ap₂ (λ s t. is_lt (slice_cmp nat_cmp s t)) p q
 
 module _ (old new : List (List ℕ)) where

@@ -25,7 +25,8 @@ smaller_put n f (g ∷ rows) = go (nat_le f.number g.number) (smaller_put n f ro
     inner true xs ys e = ap suc e
     inner false xs ys e = e
 
-    go : (b : Bool) → smaller n (put_in_order f rows) ≡ smaller n (f ∷ rows) → smaller n (cond b (f ∷ g ∷ rows) (g ∷ put_in_order f rows)) ≡ smaller n (f ∷ g ∷ rows)
+    go : (b : Bool) → smaller n (put_in_order f rows) ≡ smaller n (f ∷ rows) →
+        smaller n (cond b (f ∷ g ∷ rows) (g ∷ put_in_order f rows)) ≡ smaller n (f ∷ g ∷ rows)
     go true e = refl
     go false e =
         inner (nat_lt g.number n) (filter (λ (r : FieldRow). nat_lt r.number n) (put_in_order f rows)) (filter (λ (r : FieldRow). nat_lt r.number n) (f ∷ rows)) e
@@ -62,23 +63,25 @@ at_least low (g ∷ rows) zero f h e = let same : g ≡ f = cc in omega (arith, 
 at_least low (g ∷ rows) (suc i) f h e = let more = at_least g.number rows i f h.1 e in omega (arith, h.0)
 
 -- Among rows in order the first of a number stands behind as many as have a smaller one.
-first_of : (n k low : ℕ) (rows : List FieldRow) (i : ℕ) (f : FieldRow) → Rising number_of low rows → slice_get rows i ≡ Some f → f.number ≡ n →
+first_of : (n k low : ℕ) (rows : List FieldRow) (i : ℕ) (f : FieldRow) → Rising number_of low rows → slice_get rows i ≡ Some f →
+    f.number ≡ n →
     position_from (λ (r : FieldRow). r.number == n) k rows ≡ Some (k + smaller n rows)
 first_of n k low [] i f h e is = absurd cc
-first_of n k low (g ∷ rows) i f h e is = go (nat_eq g.number n) refl i e
+first_of n k low (g ∷ rows) i f h e is = go (nat_eq g.number n) refl i e (λ j at. first_of n (k + 1) g.number rows j f h.1 at is)
   where
     go : (b : Bool) → nat_eq g.number n ≡ b → (i : ℕ) → slice_get (g ∷ rows) i ≡ Some f →
+        ((j : ℕ) → slice_get rows j ≡ Some f → position_from (λ (r : FieldRow). r.number == n) (k + 1) rows ≡ Some (k + 1 + smaller n rows)) →
         position_from (λ (r : FieldRow). r.number == n) k (g ∷ rows) ≡ Some (k + smaller n (g ∷ rows))
-    go true t i e =
+    go true t i e more =
         let here : g.number ≡ n = eqb-true g.number n t in
         let none : smaller n rows ≡ 0 = none_smaller n g.number rows (omega (arith, here)) h.1 in
         rw (eq-eqb g.number n here, le-ltb g.number n (omega (arith, here))) (ap Some (omega (arith, none)))
-    go false t zero e = let same : g ≡ f = cc in absurd (eqb-false g.number n t (ap number_of same ∙ is))
-    go false t (suc j) e =
+    go false t zero e more = let same : g ≡ f = cc in absurd (eqb-false g.number n t (ap number_of same ∙ is))
+    go false t (suc j) e more =
         let above = at_least g.number rows j f h.1 e in
         let other : g.number ≢ n = eqb-false g.number n t in
         let less : g.number < n = omega (arith, above, is, other) in
-        rw (ne_eqb g.number n other, lt-ltb g.number n less) (first_of n (k + 1) g.number rows j f h.1 e is ∙ ap Some (omega arith))
+        rw (ne_eqb g.number n other, lt-ltb g.number n less) (more j e ∙ ap Some (omega arith))
 
 pub places_move : PlacesMove
 places_move fields more i f ascends at =

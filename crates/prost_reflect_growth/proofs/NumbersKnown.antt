@@ -16,7 +16,8 @@ any_put p f (g ∷ fields) = go (nat_le f.number g.number) (any_put p f fields)
     turn true false c = refl
     turn false b c = refl
 
-    go : (b : Bool) → list_any p (put_in_order f fields) ≡ (p f || list_any p fields) → list_any p (cond b (f ∷ g ∷ fields) (g ∷ put_in_order f fields)) ≡ (p f || (p g || list_any p fields))
+    go : (b : Bool) → list_any p (put_in_order f fields) ≡ (p f || list_any p fields) →
+        list_any p (cond b (f ∷ g ∷ fields) (g ∷ put_in_order f fields)) ≡ (p f || (p g || list_any p fields))
     go true e = refl
     go false e = ap (λ c. p g || c) e ∙ turn (p g) (p f) (list_any p fields)
 
@@ -73,7 +74,8 @@ module _ (T n : ℕ) (some : 0 < n) where
       list_any-append (same_numbered one) (numbered_fields i m.fields) (numbered_in (i + 1) ms)
       ∙ ap₂ (λ a b. a || b) (own_numbers i m.fields ∙ ap (λ b. b && list_any wanted m.fields) (ne_eqb T i (λ same. absurd (omega arith)))) (later_numbers (i + 1) ms (omega arith))
 
-  in_numbers : (i k : ℕ) (ms : List FlatMessageRow) (m : FlatMessageRow) → T ≡ i + k → slice_get ms k ≡ Some m → list_any (same_numbered one) (numbered_in i ms) ≡ list_any wanted m.fields
+  in_numbers : (i k : ℕ) (ms : List FlatMessageRow) (m : FlatMessageRow) → T ≡ i + k → slice_get ms k ≡ Some m →
+      list_any (same_numbered one) (numbered_in i ms) ≡ list_any wanted m.fields
   in_numbers i k [] m e at = absurd cc
   in_numbers i zero (x ∷ ms) m e at =
       let same : x ≡ m = cc in
@@ -93,7 +95,9 @@ module _ (T n : ℕ) (some : 0 < n) where
       ∙ (ap (λ b. list_any (same_numbered one) (numbered_at (number_or_zero d.proto.number) (extended_place (links_of rows) d)) || b) (extension_numbers rows ds)
       ∙ go (extended_place (links_of rows) d) (belonging (extended_place (links_of rows)) ds T))
     where
-      inner : (b : Bool) (rest : List FieldDef) → ((b && wanted d) || false) || list_any has (map (linked_field (links_of rows) true) rest) ≡ list_any has (map (linked_field (links_of rows) true) (cond b (d ∷ rest) rest))
+      inner : (b : Bool) (rest : List FieldDef) →
+          ((b && wanted d) || false) || list_any has (map (linked_field (links_of rows) true) rest)
+          ≡ list_any has (map (linked_field (links_of rows) true) (cond b (d ∷ rest) rest))
       inner true rest = ap (λ c. c || list_any has (map (linked_field (links_of rows) true) rest)) (or_false (wanted d) ∙ sym (linked_has (links_of rows) true d))
       inner false rest = refl
 
@@ -103,7 +107,8 @@ module _ (T n : ℕ) (some : 0 < n) where
       go None rest = refl
       go (Some k) rest = inner (nat_eq T k) rest
 
-  known_at : (old : FlatRows) (m : FlatMessageRow) → slice_get old.messages T ≡ Some m → list_any (same_numbered one) (all_numbered old) ≡ list_any has (fields_at (linked_rows old) T)
+  known_at : (old : FlatRows) (m : FlatMessageRow) → slice_get old.messages T ≡ Some m →
+      list_any (same_numbered one) (all_numbered old) ≡ list_any has (fields_at (linked_rows old) T)
   known_at old m at =
       let links = links_of old in
       let more = map (linked_field links true) (belonging (extended_place links) old.extensions T) in

@@ -31,7 +31,9 @@ module _ {X : Type 0} (lt : X → X → Bool) (o : IsStrictWeakOrder lt) where
       go false more = more
 
   -- The point where they part.
-  pub front_is : (y : X) (k : ℕ) (xs : List X) → k ≤ length xs → IsPartitionPoint (λ x. not (lt y x) ≡ true) (λ x. not (lt y x) ≡ false) xs k → (take k xs ≡ front lt y xs) × (drop k xs ≡ back lt y xs)
+  pub front_is : (y : X) (k : ℕ) (xs : List X) → k ≤ length xs →
+      IsPartitionPoint (λ x. not (lt y x) ≡ true) (λ x. not (lt y x) ≡ false) xs k →
+      (take k xs ≡ front lt y xs) × (drop k xs ≡ back lt y xs)
   front_is y zero [] h point = (refl, refl)
   front_is y (suc k) [] h point = absurd (omega arith)
   front_is y zero (x ∷ xs) h point =

@@ -11,7 +11,8 @@ later p i k (x ∷ xs) = elim (p x) as (λ b. cond b (Some (k + i)) (position_fr
   | false ↦ let e : k + i + 1 ≡ k + (i + 1) = omega arith in rw e (later p (i + 1) k xs)
 ]
 
-found_in : {X : Type 0} (p : X → Bool) (i : ℕ) (xs ys : List X) → position_from p i (xs ++ ys) ≡ or_behind (position_from p i xs) (i + length xs) (position_from p 0 ys)
+found_in : {X : Type 0} (p : X → Bool) (i : ℕ) (xs ys : List X) →
+    position_from p i (xs ++ ys) ≡ or_behind (position_from p i xs) (i + length xs) (position_from p 0 ys)
 found_in p i [] ys = let e : i + 0 ≡ i = omega arith in rw (add-zero i) (ap (λ j. position_from p j ys) (sym e) ∙ later p 0 i ys)
 found_in p i (x ∷ xs) ys = elim (p x) as (λ b. cond b (Some i) (position_from p (i + 1) (xs ++ ys)) ≡ or_behind (cond b (Some i) (position_from p (i + 1) xs)) (i + length (x ∷ xs)) (position_from p 0 ys)) [
   | true ↦ refl

@@ -39,16 +39,19 @@ pub record FlatFrom (F M : ℕ) (rows : FlatRows) : Type 0 where
 
 -- DEFINITIONS
 
-defined_on : {R : Type 0} (F M : ℕ) (name : R → Option (String Global)) (s : ScopeRow) (number place : ℕ) (rs : List R) → ScopeFrom F M s → All (λ d. RowFrom F M d) (defined_from name s number place rs)
+defined_on : {R : Type 0} (F M : ℕ) (name : R → Option (String Global)) (s : ScopeRow) (number place : ℕ) (rs : List R) → ScopeFrom F M s →
+    All (λ d. RowFrom F M d) (defined_from name s number place rs)
 defined_on {R} F M name s number place [] h = All-nil (λ (d : DefinitionRow R). RowFrom F M d)
 defined_on {R} F M name s number place (r ∷ rs) h =
     All-cons (λ (d : DefinitionRow R). RowFrom F M d) (defined s number place (name r) r) (defined_from name s number (place + 1) rs) h (defined_on F M name s number (place + 1) rs h)
 
-enums_on : (F M : ℕ) (s : ScopeRow) (number place : ℕ) (es : List EnumDescriptorProto) → ScopeFrom F M s → All (EnumFrom F M) (enums_from s number place es)
+enums_on : (F M : ℕ) (s : ScopeRow) (number place : ℕ) (es : List EnumDescriptorProto) → ScopeFrom F M s →
+    All (EnumFrom F M) (enums_from s number place es)
 enums_on F M s number place [] h = All-nil (EnumFrom F M)
 enums_on F M s number place (e ∷ es) h = All-cons (EnumFrom F M) (enum_at s number place e) (enums_from s number (place + 1) es) h (enums_on F M s number (place + 1) es h)
 
-services_on : (F M : ℕ) (s : ScopeRow) (number place : ℕ) (ss : List ServiceDescriptorProto) → ScopeFrom F M s → All (ServiceFrom F M) (services_from s number place ss)
+services_on : (F M : ℕ) (s : ScopeRow) (number place : ℕ) (ss : List ServiceDescriptorProto) → ScopeFrom F M s →
+    All (ServiceFrom F M) (services_from s number place ss)
 services_on F M s number place [] h = All-nil (ServiceFrom F M)
 services_on F M s number place (t ∷ ts) h = All-cons (ServiceFrom F M) (service_at s number place t) (services_from s number (place + 1) ts) h (services_on F M s number (place + 1) ts h)
 
@@ -58,7 +61,8 @@ services_on F M s number place (t ∷ ts) h = All-cons (ServiceFrom F M) (servic
 abbrev PlacedFrom : Placed → Type 0
 PlacedFrom m = (F M : ℕ) (s : ScopeRow) (number place before : ℕ) → ScopeFrom F M s → M ≤ before → GivenFrom F M (m s number place before)
 
-all_on : (ms : List Placed) → AllByRecursion PlacedFrom ms → (F M : ℕ) (s : ScopeRow) (number place before : ℕ) → ScopeFrom F M s → M ≤ before →
+all_on : (ms : List Placed) → AllByRecursion PlacedFrom ms → (F M : ℕ) (s : ScopeRow) (number place before : ℕ) → ScopeFrom F M s →
+    M ≤ before →
     GivenFrom F M (all_from ms s number place before)
 all_on [] each F M s number place before scope enough = record { messages = All-nil (MessageFrom F M); enums = All-nil (EnumFrom F M); extensions = All-nil (FieldFrom F M) }
 all_on (m ∷ ms) each F M s number place before scope enough =
@@ -123,7 +127,8 @@ file_on F M f file before there enough =
       services = services_on F M s 6 0 f.service.items scope;
     }
 
-pub files_on : (F M : ℕ) (fs : List FileDescriptorProto) (file before : ℕ) → F ≤ file → M ≤ before → FlatFrom F M (files_from fs file before)
+pub files_on : (F M : ℕ) (fs : List FileDescriptorProto) (file before : ℕ) → F ≤ file → M ≤ before →
+    FlatFrom F M (files_from fs file before)
 files_on F M [] file before there enough = record { messages = All-nil (MessageFrom F M); enums = All-nil (EnumFrom F M); extensions = All-nil (FieldFrom F M); services = All-nil (ServiceFrom F M) }
 files_on F M (f ∷ fs) file before there enough =
     let first = file_at f file before in

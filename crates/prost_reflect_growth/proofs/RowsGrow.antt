@@ -47,7 +47,8 @@ oneofs_move links rest more ds o (x ∷ os) ascends =
 
 -- ONE MESSAGE
 
-message_grows : (links : Links) (rest more : List FieldRow) (m : FlatMessageRow) → ascending_from 0 (linked_message (declared_fields links m.fields ++ rest) m).fields ≡ true →
+message_grows : (links : Links) (rest more : List FieldRow) (m : FlatMessageRow) →
+    ascending_from 0 (linked_message (declared_fields links m.fields ++ rest) m).fields ≡ true →
     linked_message ((declared_fields links m.fields ++ rest) ++ more) m ≡ grown_message more (linked_message (declared_fields links m.fields ++ rest) m)
 unfolding linked_message
 message_grows links rest more m ascends =
@@ -58,7 +59,8 @@ message_grows links rest more m ascends =
 -- WHAT STAYS OF FIELDS AND EXTENSIONS
 
 -- The place that a text names is that of an item.
-named_within : {X : Type 0} (name_of : X → List ℕ) (xs : List X) (o : Option (String Global)) (k : ℕ) → place_named (map name_of xs) o ≡ Some k → k < length xs
+named_within : {X : Type 0} (name_of : X → List ℕ) (xs : List X) (o : Option (String Global)) (k : ℕ) →
+    place_named (map name_of xs) o ≡ Some k → k < length xs
 named_within name_of xs None k e = absurd cc
 named_within name_of xs (Some text) k e =
     let found = position_at (bytes_eq (without_dot (string_bytes text))) name_of 0 xs k e in
@@ -71,14 +73,16 @@ module _ (old new : FlatRows) where
   abbrev before : Links
   before = links_of old
 
-  fields_stay : (ds : List FieldDef) → list_any type_missing ds ≡ false → list_any (type_unknown old) ds ≡ false → declared_fields after ds ≡ declared_fields before ds
+  fields_stay : (ds : List FieldDef) → list_any type_missing ds ≡ false → list_any (type_unknown old) ds ≡ false →
+      declared_fields after ds ≡ declared_fields before ds
   fields_stay [] m u = refl
   fields_stay (d ∷ ds) m u =
       let ms = or_parts (type_missing d) (list_any type_missing ds) m in
       let us = or_parts (type_unknown old d) (list_any (type_unknown old) ds) u in
       ap₂ (λ y ys. y ∷ ys) (field_stays old new false d ms.0 us.0) (fields_stay ds ms.1 us.1)
 
-  extensions_stay : (T : ℕ) (ds : List FieldDef) → list_any (extendee_unknown old) ds ≡ false → list_any type_missing ds ≡ false → list_any (type_unknown old) ds ≡ false →
+  extensions_stay : (T : ℕ) (ds : List FieldDef) → list_any (extendee_unknown old) ds ≡ false → list_any type_missing ds ≡ false →
+      list_any (type_unknown old) ds ≡ false →
       map (linked_field after true) (belonging (extended_place after) ds T) ≡ map (linked_field before true) (belonging (extended_place before) ds T)
   extensions_stay T [] e m u = refl
   extensions_stay T (d ∷ ds) e m u =
@@ -88,7 +92,9 @@ module _ (old new : FlatRows) where
       ap (λ (p : Option ℕ). map (linked_field after true) (cond (is_place T p) (d ∷ belonging (extended_place after) ds T) (belonging (extended_place after) ds T))) (extendee_stays old new d es.0)
       ∙ go (is_place T (extended_place before d)) (field_stays old new true d ms.0 us.0) (extensions_stay T ds es.1 ms.1 us.1)
     where
-      go : (b : Bool) → linked_field after true d ≡ linked_field before true d → map (linked_field after true) (belonging (extended_place after) ds T) ≡ map (linked_field before true) (belonging (extended_place before) ds T) →
+      go : (b : Bool) → linked_field after true d ≡ linked_field before true d →
+          map (linked_field after true) (belonging (extended_place after) ds T)
+          ≡ map (linked_field before true) (belonging (extended_place before) ds T) →
           map (linked_field after true) (cond b (d ∷ belonging (extended_place after) ds T) (belonging (extended_place after) ds T)) ≡ map (linked_field before true) (cond b (d ∷ belonging (extended_place before) ds T) (belonging (extended_place before) ds T))
       go true here rest = ap₂ (λ y ys. y ∷ ys) here rest
       go false here rest = rest
@@ -101,7 +107,8 @@ module _ (old new : FlatRows) where
       at None e = refl
       at (Some k) e = let less = named_within message_name old.messages d.proto.extendee k e in ne_eqb T k (λ same. absurd (omega arith))
 
-  pub none_extended : (T : ℕ) (ds : List FieldDef) → list_any (extendee_unknown old) ds ≡ false → length old.messages ≤ T → belonging (extended_place after) ds T ≡ []
+  pub none_extended : (T : ℕ) (ds : List FieldDef) → list_any (extendee_unknown old) ds ≡ false → length old.messages ≤ T →
+      belonging (extended_place after) ds T ≡ []
   none_extended T [] e above = refl
   none_extended T (d ∷ ds) e above =
       let es = or_parts (extendee_unknown old d) (list_any (extendee_unknown old) ds) e in
@@ -119,17 +126,20 @@ module _ (old new : FlatRows) where
         ∙ sym (append_assoc (declared_fields before x.fields) (map (linked_field before true) (belonging (extended_place before) old.extensions T)) (further old new T))
 
     -- Those of an added message have no old extension among them.
-    fields_new : (T : ℕ) (x : FlatMessageRow) → length old.messages ≤ T → fields_of_message after (old.extensions ++ new.extensions) T x ≡ fields_of_message after new.extensions T x
+    fields_new : (T : ℕ) (x : FlatMessageRow) → length old.messages ≤ T →
+        fields_of_message after (old.extensions ++ new.extensions) T x ≡ fields_of_message after new.extensions T x
     fields_new T x above =
         ap (λ l. declared_fields after x.fields ++ map (linked_field after true) l)
         (filter-append (λ (d : FieldDef). is_place T (extended_place after d)) old.extensions new.extensions
         ∙ ap (λ l. l ++ belonging (extended_place after) new.extensions T) (none_extended T old.extensions e above))
 
-    messages_new : (T : ℕ) (ms : List FlatMessageRow) → length old.messages ≤ T → messages_from after (old.extensions ++ new.extensions) T ms ≡ messages_from after new.extensions T ms
+    messages_new : (T : ℕ) (ms : List FlatMessageRow) → length old.messages ≤ T →
+        messages_from after (old.extensions ++ new.extensions) T ms ≡ messages_from after new.extensions T ms
     messages_new T [] above = refl
     messages_new T (x ∷ ms) above = ap₂ (λ y ys. y ∷ ys) (ap (λ all. linked_message all x) (fields_new T x above)) (messages_new (T + 1) ms (omega arith))
 
-    messages_old : (T : ℕ) (ms rest : List FlatMessageRow) → list_any (λ (x : FlatMessageRow). list_any type_missing x.fields) ms ≡ false → list_any (λ (x : FlatMessageRow). list_any (type_unknown old) x.fields) ms ≡ false →
+    messages_old : (T : ℕ) (ms rest : List FlatMessageRow) → list_any (λ (x : FlatMessageRow). list_any type_missing x.fields) ms ≡ false →
+        list_any (λ (x : FlatMessageRow). list_any (type_unknown old) x.fields) ms ≡ false →
         ((i : ℕ) (x : FlatMessageRow) → slice_get ms i ≡ Some x → ascending_from 0 (linked_message (fields_of_message before old.extensions (T + i) x) x).fields ≡ true) →
         messages_from after (old.extensions ++ new.extensions) T (ms ++ rest)
         ≡ each_from (λ T x. grown_message (further old new T) x) T (messages_from before old.extensions T ms) ++ messages_from after (old.extensions ++ new.extensions) (T + length ms) rest

@@ -12,7 +12,8 @@ FieldDef = DefinitionRow FieldDescriptorProto
 
 -- NAMES
 
-pub named_stays : (xs ys : List (List ℕ)) (o : Option (String Global)) → names_nothing xs o ≡ false → place_named (xs ++ ys) o ≡ place_named xs o
+pub named_stays : (xs ys : List (List ℕ)) (o : Option (String Global)) → names_nothing xs o ≡ false →
+    place_named (xs ++ ys) o ≡ place_named xs o
 named_stays xs ys None h = refl
 named_stays xs ys (Some text) h = places_grow xs ys (without_dot (string_bytes text)) ∙ go (name_place xs (without_dot (string_bytes text))) h
   where
@@ -41,9 +42,12 @@ extendee_stays old new d h = message_stays old new d.proto.extendee h
 
 -- The kind of a code names a message only where that is of a message type, and an enum only where it is of an enum type.
 data KindCase (m e m1 e1 code : ℕ) : Type 0 where
-  OfMessage : is_message_type (Some (pos code)) ≡ true → kind_of_code m1 e1 code ≡ Message m1 → kind_of_code m e code ≡ Message m → KindCase m e m1 e1 code
-  OfEnum : is_enum_type (Some (pos code)) ≡ true → kind_of_code m1 e1 code ≡ Enum e1 → kind_of_code m e code ≡ Enum e → KindCase m e m1 e1 code
-  OfScalar : kind_of_code m1 e1 code ≡ kind_of_code m e code → ((links : Links) → values_of_kind links (kind_of_code m e code) ≡ []) → KindCase m e m1 e1 code
+  OfMessage : is_message_type (Some (pos code)) ≡ true → kind_of_code m1 e1 code ≡ Message m1 → kind_of_code m e code ≡ Message m →
+      KindCase m e m1 e1 code
+  OfEnum : is_enum_type (Some (pos code)) ≡ true → kind_of_code m1 e1 code ≡ Enum e1 → kind_of_code m e code ≡ Enum e →
+      KindCase m e m1 e1 code
+  OfScalar : kind_of_code m1 e1 code ≡ kind_of_code m e code → ((links : Links) → values_of_kind links (kind_of_code m e code) ≡ []) →
+      KindCase m e m1 e1 code
 
 each_code : (m e m1 e1 : ℕ) → Below (KindCase m e m1 e1) 19
 each_code m e m1 e1 = (
@@ -95,7 +99,8 @@ each_code m e m1 e1 = (
 
 -- VALUES
 
-values_at : (rows : FlatRows) (E : ℕ) (e : FlatEnumRow) → slice_get rows.enums E ≡ Some e → values_of_kind (links_of rows) (Enum E) ≡ map linked_value e.values
+values_at : (rows : FlatRows) (E : ℕ) (e : FlatEnumRow) → slice_get rows.enums E ≡ Some e →
+    values_of_kind (links_of rows) (Enum E) ≡ map linked_value e.values
 values_at rows E e at = ap (λ (o : Option (List EnumValueRow)). unwrap_or o []) (mapped (λ (e : FlatEnumRow). map linked_value e.values) rows.enums E e at)
 
 -- The enum that a text names has the values that it had.
@@ -109,7 +114,8 @@ values_there old new o some h =
 
 -- FIELDS
 
-default_same : (a b : Links) (kind : TableKind) (o : Option (String Global)) → values_of_kind a kind ≡ values_of_kind b kind → linked_default a kind o ≡ linked_default b kind o
+default_same : (a b : Links) (kind : TableKind) (o : Option (String Global)) → values_of_kind a kind ≡ values_of_kind b kind →
+    linked_default a kind o ≡ linked_default b kind o
 default_same a b kind None e = refl
 default_same a b kind (Some text) e = rw e refl
 
@@ -131,19 +137,25 @@ stays old new d there found =
     before : Links
     before = links_of old
 
-    parts : (is_message_type d.proto.type_ && names_nothing (message_names old) d.proto.type_name ≡ false) × (is_enum_type d.proto.type_ && names_nothing (enum_names old) d.proto.type_name ≡ false)
+    parts :
+        (is_message_type d.proto.type_ && names_nothing (message_names old) d.proto.type_name ≡ false) × (is_enum_type d.proto.type_ && names_nothing (enum_names old) d.proto.type_name ≡ false)
     parts = or_parts (is_message_type d.proto.type_ && names_nothing (message_names old) d.proto.type_name) (is_enum_type d.proto.type_ && names_nothing (enum_names old) d.proto.type_name) found
 
-    code_is : (c : TypeCode d) (links : Links) → linked_kind links d.proto ≡ kind_of_code (place_or_first links.messages d.proto.type_name) (place_or_first links.enums d.proto.type_name) c.code
+    code_is : (c : TypeCode d) (links : Links) →
+        linked_kind links d.proto
+        ≡ kind_of_code (place_or_first links.messages d.proto.type_name) (place_or_first links.enums d.proto.type_name) c.code
     code_is c links = ap (λ (t : Option ℤ). kind_of_code (place_or_first links.messages d.proto.type_name) (place_or_first links.enums d.proto.type_name) (natural_or_zero t)) c.is
 
-    closed : linked_kind after d.proto ≡ linked_kind before d.proto → values_of_kind after (linked_kind before d.proto) ≡ values_of_kind before (linked_kind before d.proto) → Stays old new d
+    closed : linked_kind after d.proto ≡ linked_kind before d.proto →
+        values_of_kind after (linked_kind before d.proto) ≡ values_of_kind before (linked_kind before d.proto) → Stays old new d
     closed kind values = record {
       kind = kind;
       default = ap (λ k. linked_default after k d.proto.default_value) kind ∙ default_same after before (linked_kind before d.proto) d.proto.default_value values;
     }
 
-    by_case : (c : TypeCode d) → KindCase (place_or_first (message_names old) d.proto.type_name) (place_or_first (enum_names old) d.proto.type_name) (place_or_first (message_names (behind old new)) d.proto.type_name) (place_or_first (enum_names (behind old new)) d.proto.type_name) c.code → Stays old new d
+    by_case : (c : TypeCode d) →
+        KindCase (place_or_first (message_names old) d.proto.type_name) (place_or_first (enum_names old) d.proto.type_name) (place_or_first (message_names (behind old new)) d.proto.type_name) (place_or_first (enum_names (behind old new)) d.proto.type_name) c.code →
+        Stays old new d
     by_case c (OfMessage is k1 k) =
         let nothing : names_nothing (message_names old) d.proto.type_name ≡ false = ap (λ b. b && names_nothing (message_names old) d.proto.type_name) (sym (ap is_message_type c.is ∙ is)) ∙ parts.0 in
         let place : place_or_first (message_names (behind old new)) d.proto.type_name ≡ place_or_first (message_names old) d.proto.type_name = ap (λ (p : Option ℕ). unwrap_or p 0) (message_stays old new d.proto.type_name nothing) in

@@ -17,7 +17,8 @@ oneofs_stay : (fields : List FieldRow) (oneofs : List OneofRow) → map (moved_o
 oneofs_stay fields [] = refl
 oneofs_stay fields (o ∷ oneofs) = ap₂ (λ (l : List ℕ) (os : List OneofRow). record o { fields = l } ∷ os) (places_stay fields o.fields) (oneofs_stay fields oneofs)
 
-in_order_already : (old : FlatRows) (T : ℕ) (m : MessageRow) → slice_get (linked_rows old).messages T ≡ Some m → in_order (m.fields ++ []) ≡ m.fields
+in_order_already : (old : FlatRows) (T : ℕ) (m : MessageRow) → slice_get (linked_rows old).messages T ≡ Some m →
+    in_order (m.fields ++ []) ≡ m.fields
 in_order_already old T m at =
     let less : T < length old.messages = omega (arith, slice_get_within (linked_rows old).messages T m at, messages_length (links_of old) old.extensions 0 old.messages) in
     let x = item_there old.messages T less in

@@ -77,14 +77,14 @@ pub fn ordered_grows()
     ensures { OrderedGrows }
 {}
 
-/// Places in the order of old texts are in order among all texts.
-pub fn ordered_stays()
-    ensures { OrderedStays }
-{}
-
-/// So are the places of the values of enums.
+/// So are the places of the values of enums, in the order of their full names.
 pub fn values_grow()
     ensures { ValuesGrow }
+{}
+
+/// Places in the order of old texts are in order among all texts, too.
+pub fn ordered_stays()
+    ensures { OrderedStays }
 {}
 
 /// The places of all definitions by their names, from those of the old ones.
@@ -127,7 +127,7 @@ pub fn messages_grow()
     ensures { MessagesGrow }
 {}
 
-/// The rows of old extensions move behind those of added ones that have smaller numbers; the others need the grown rows alone.
+/// The rows of old extensions move behind those of added ones that have smaller numbers; added ones stand among the grown rows.
 pub fn extensions_grow()
     ensures { ExtensionsGrow }
 {}

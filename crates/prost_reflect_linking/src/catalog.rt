@@ -18,6 +18,7 @@ use crate::files::linked_files;
 use crate::lists::{InnerPlaces, inner_places, lists_of_enums, lists_of_messages};
 use crate::order::ordered_texts;
 use crate::services::linked_services;
+use crate::values::ordered_values;
 use prost_reflect_resolving::{Index, ResolvedField};
 use prost_reflect_tables::{
     Catalog, Definition, EnumLists, FileTable, Flat, FlatService, ServiceTable, SortedPlaces, Tables,
@@ -68,6 +69,7 @@ fn sorted_places(
         enums: ordered_texts(alloc, enum_names.as_slice())?,
         extensions: ordered_texts(alloc, extension_names.as_slice())?,
         services: ordered_texts(alloc, service_names.as_slice())?,
+        values: ordered_values(alloc, flat)?,
     })
 }
 

@@ -8,7 +8,8 @@ use Rattle.prost_reflect_growth.proofs.Passing.{back_ascends}
 use Rattle.prost_reflect_growth.proofs.merging_places.merged_places.Goals as goal
 
 -- One place more.
-step : (lt : ℕ → ℕ → Bool) → IsStrictWeakOrder lt → (old new left before passed further : List ℕ) (items with_passed with_place : List ℕ) (k n d : ℕ) → k < length new →
+step : (lt : ℕ → ℕ → Bool) → IsStrictWeakOrder lt →
+    (old new left before passed further : List ℕ) (items with_passed with_place : List ℕ) (k n d : ℕ) → k < length new →
     passed ≡ take n left → further ≡ drop n left → take n left ≡ front lt (get_or new k d) left → drop n left ≡ back lt (get_or new k d) left →
     with_passed ≡ items ++ passed → with_place ≡ with_passed ++ get_or new k d ∷ [] →
     Rises lt left × (items ++ merged lt left (drop k new) ≡ merged lt old new) → Rises lt further × (with_place ++ merged lt further (drop (k + 1) new) ≡ merged lt old new)

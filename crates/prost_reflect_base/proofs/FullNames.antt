@@ -30,7 +30,7 @@ use Rattle.prost_reflect_pool.specs.Pools.{files_of, pool_catalog, pool_rows}
 use Rattle.prost_reflect_pool.specs.declared.pool.LinkedPool.{LinkedPool}
 use Rattle.prost_reflect_pool.proofs.InCatalog as catalog
 use Rattle.prost_reflect_pool.proofs.UniqueNames.{back_alone, front_alone}
-use Rattle.prost_reflect_base.specs.Inside.{cut_at_a_dot, field_text, has_inside, has_member, has_method, member_texts, message_name, method_text, method_texts, names_but_of_values, oneof_text, service_name, texts_in}
+use Rattle.prost_reflect_base.specs.Inside.{cut_at_a_dot, field_text, has_inside, has_member, has_method, member_texts, message_name, method_text, method_texts, oneof_text, service_name, texts_in}
 use Rattle.prost_reflect_base.proofs.Lists.{or_true, turned, none_at, any_mapped, any_same, some_place, found_there, found_nowhere, place_within, first_named, some_named}
 use Rattle.prost_reflect_base.proofs.Linked.{flat_of, rows_are, catalog_is, message_at, message_count, services_named}
 use Rattle.prost_reflect_base.proofs.NamesInside.{MessageNames, ServiceNames, message_names_placed, service_names_placed}
@@ -75,7 +75,7 @@ some_joined (b ∷ scope) name some none = absurd cc
 message_scoped : (m : FlatMessageRow) → MessageNames m → message_unnamed m ≡ false → Scoped message_name member_names member_texts m
 message_scoped m names named = record {
   some = λ none. some_joined names.scope (text_or_empty m.definition.proto.name) (some_text (text_or_empty m.definition.proto.name) own) (sym names.full ∙ none);
-  joins = ap₂ (λ a b. a ++ b) names.fields names.oneofs ∙ sym (map-append (joined m.definition.full_name) (map field_text m.fields) (map oneof_text m.oneofs));
+  joins = ap₂ (λ (a b : List (List ℕ)). a ++ b) names.fields names.oneofs ∙ sym (map-append (joined m.definition.full_name) (map field_text m.fields) (map oneof_text m.oneofs));
 }
   where
     own : is_unnamed m.definition.proto.name ≡ false
@@ -146,28 +146,27 @@ grouped false false true c d j = refl
 grouped false false false true d j = refl
 grouped false false false false d j = refl
 
--- A name is that of a message type, an enum, an extension or a service, or of what stands in one of them; values aside.
-pub names_told : (pool : LinkedPool) (n : List ℕ) →
-    list_any (bytes_eq n) (names_but_of_values (flat_of pool))
-    ≡ ((((list_any (bytes_eq n) (message_names (flat_of pool)) || list_any (bytes_eq n) (enum_names (flat_of pool))) || list_any (bytes_eq n) (names_of (flat_of pool).extensions)) || list_any (bytes_eq n) (service_names (flat_of pool))) || cut_at_a_dot (has_inside (flat_of pool)) [] n)
-names_told pool n =
+-- A name is that of a message type, an enum, an extension or a service, or of what stands in a message type or a service.
+abbrev among_others : List ℕ → FlatRows → Bool
+among_others n rows =
+    (((list_any (bytes_eq n) (message_names rows) || list_any (bytes_eq n) (enum_names rows)) || list_any (bytes_eq n) (names_of rows.extensions)) || list_any (bytes_eq n) (service_names rows))
+    || cut_at_a_dot (has_inside rows) [] n
+
+others_told : (pool : LinkedPool) (n : List ℕ) → (((list_any (bytes_eq n) (names_in_messages (flat_of pool).messages) || list_any (bytes_eq n) (enum_names (flat_of pool))) || list_any (bytes_eq n) (names_of (flat_of pool).extensions)) || list_any (bytes_eq n) (names_in_services (flat_of pool).services)) ≡ among_others n (flat_of pool)
+others_told pool n =
     let rows = flat_of pool in
     let test = bytes_eq n in
-    let messages = names_in_messages rows.messages in
     let enums = enum_names rows in
     let extensions = names_of rows.extensions in
-    let services = names_in_services rows.services in
-    let own : list_any test messages ≡ (list_any test (message_names rows) || among_members n rows) = ap (list_any test) (messages_all rows.messages) ∙ (any_of_all message_name member_names n rows.messages ∙ ap (λ b. b || among_members n rows) (sym (any_mapped test message_name rows.messages))) in
-    let last : list_any test services ≡ (list_any test (service_names rows) || among_methods n rows) = ap (list_any test) (services_all rows.services) ∙ (any_of_all service_name method_names n rows.services ∙ ap (λ b. b || among_methods n rows) (sym (any_mapped test service_name rows.services))) in
-    list_any-append test (messages ++ enums ++ extensions) services
-    ∙ (ap (λ b. b || list_any test services) (list_any-append test (messages ++ enums) extensions ∙ ap (λ b. b || list_any test extensions) (list_any-append test messages enums))
-    ∙ (ap₂ (λ (a b : Bool). ((a || list_any test enums) || list_any test extensions) || b) own last
+    let own : list_any test (names_in_messages rows.messages) ≡ (list_any test (message_names rows) || among_members n rows) = ap (list_any test) (messages_all rows.messages) ∙ (any_of_all message_name member_names n rows.messages ∙ ap (λ b. b || among_members n rows) (sym (any_mapped test message_name rows.messages))) in
+    let last : list_any test (names_in_services rows.services) ≡ (list_any test (service_names rows) || among_methods n rows) = ap (list_any test) (services_all rows.services) ∙ (any_of_all service_name method_names n rows.services ∙ ap (λ b. b || among_methods n rows) (sym (any_mapped test service_name rows.services))) in
+    ap₂ (λ (a b : Bool). ((a || list_any test enums) || list_any test extensions) || b) own last
     ∙ (grouped (list_any test (message_names rows)) (among_members n rows) (list_any test enums) (list_any test extensions) (list_any test (service_names rows)) (among_methods n rows)
-    ∙ ap (λ b. (((list_any test (message_names rows) || list_any test enums) || list_any test extensions) || list_any test (service_names rows)) || b) (sym (inside_told pool n)))))
+    ∙ ap (λ b. (((list_any test (message_names rows) || list_any test enums) || list_any test extensions) || list_any test (service_names rows)) || b) (sym (inside_told pool n)))
 
 -- VALUES
 
-abbrev among_values : List ℕ → FlatRows → Bool
+abbrev pub among_values : List ℕ → FlatRows → Bool
 among_values n rows = list_any (λ e. list_any (bytes_eq n) (value_names e)) rows.enums
 
 behind_all : (m e v x s : Bool) → (((m || (e || v)) || x) || s) ≡ ((((m || e) || x) || s) || v)
@@ -186,26 +185,28 @@ value_among n es =
     ∙ any_same (λ (e : FlatEnumRow). list_any (λ v. bytes_eq n v.id.full_name) (map linked_value e.values)) (λ (e : FlatEnumRow). list_any (bytes_eq n) (value_names e)) es (λ e.
     any_mapped (λ (v : EnumValueRow). bytes_eq n v.id.full_name) linked_value e.values ∙ sym (any_mapped (bytes_eq n) (λ (d : DefinitionRow EnumValueDescriptorProto). d.full_name) e.values))
 
--- A name is one of the other definitions, or that of a value of an enum.
-pub all_told : (pool : LinkedPool) (n : List ℕ) → list_any (bytes_eq n) (full_names (flat_of pool)) ≡ (list_any (bytes_eq n) (names_but_of_values (flat_of pool)) || list_any (λ e. list_any (λ v. bytes_eq n v.id.full_name) e.values) (pool_rows pool).enums)
+-- The rows of enums show the full names of their values.
+pub values_told : (pool : LinkedPool) (n : List ℕ) → list_any (λ e. list_any (λ v. bytes_eq n v.id.full_name) e.values) (pool_rows pool).enums ≡ among_values n (flat_of pool)
+values_told pool n = ap (λ (r : TableRows). list_any (λ e. list_any (λ v. bytes_eq n v.id.full_name) e.values) r.enums) (rows_are pool) ∙ value_among n (flat_of pool).enums
+
+parts_told : (test : List ℕ → Bool) (a b c d : List (List ℕ)) → list_any test (a ++ b ++ c ++ d) ≡ (((list_any test a || list_any test b) || list_any test c) || list_any test d)
+parts_told test a b c d =
+    list_any-append test (a ++ b ++ c) d
+    ∙ ap (λ t. t || list_any test d) (list_any-append test (a ++ b) c ∙ ap (λ t. t || list_any test c) (list_any-append test a b))
+
+-- A name is that of a definition which is no value, or of a value of an enum.
+pub all_told : (pool : LinkedPool) (n : List ℕ) → list_any (bytes_eq n) (full_names (flat_of pool)) ≡ (among_others n (flat_of pool) || among_values n (flat_of pool))
 all_told pool n =
     let rows = flat_of pool in
     let test = bytes_eq n in
     let messages = names_in_messages rows.messages in
-    let enums = names_in_enums rows.enums in
     let extensions = names_of rows.extensions in
     let services = names_in_services rows.services in
-    let own : list_any test enums ≡ (list_any test (enum_names rows) || among_values n rows) = ap (list_any test) (enums_all rows.enums) ∙ (any_of_all enum_name value_names n rows.enums ∙ ap (λ b. b || among_values n rows) (sym (any_mapped test enum_name rows.enums))) in
-    let values : among_values n rows ≡ list_any (λ e. list_any (λ v. bytes_eq n v.id.full_name) e.values) (pool_rows pool).enums = sym (ap (λ (r : TableRows). list_any (λ e. list_any (λ v. bytes_eq n v.id.full_name) e.values) r.enums) (rows_are pool) ∙ value_among n rows.enums) in
-    let whole : list_any test (names_but_of_values rows) ≡ (((list_any test messages || list_any test (enum_names rows)) || list_any test extensions) || list_any test services) = parts test messages (enum_names rows) extensions services in
-    parts test messages enums extensions services
+    let own : list_any test (names_in_enums rows.enums) ≡ (list_any test (enum_names rows) || among_values n rows) = ap (list_any test) (enums_all rows.enums) ∙ (any_of_all enum_name value_names n rows.enums ∙ ap (λ b. b || among_values n rows) (sym (any_mapped test enum_name rows.enums))) in
+    parts_told test messages (names_in_enums rows.enums) extensions services
     ∙ (ap (λ b. ((list_any test messages || b) || list_any test extensions) || list_any test services) own
-    ∙ (behind_all (list_any test messages) (list_any test (enum_names rows)) (among_values n rows) (list_any test extensions) (list_any test services) ∙ ap₂ (λ (a b : Bool). a || b) (sym whole) values))
-  where
-    parts : (test : List ℕ → Bool) (a b c d : List (List ℕ)) → list_any test (a ++ b ++ c ++ d) ≡ (((list_any test a || list_any test b) || list_any test c) || list_any test d)
-    parts test a b c d =
-        list_any-append test (a ++ b ++ c) d
-        ∙ ap (λ t. t || list_any test d) (list_any-append test (a ++ b) c ∙ ap (λ t. t || list_any test c) (list_any-append test a b))
+    ∙ (behind_all (list_any test messages) (list_any test (enum_names rows)) (among_values n rows) (list_any test extensions) (list_any test services)
+    ∙ ap (λ b. b || among_values n rows) (others_told pool n)))
 
 -- WHAT STANDS IN A MESSAGE TYPE
 
@@ -284,6 +285,11 @@ member_there pool T scope name r e at =
     ap (λ o. is_some (named_field (fields_or_none o) name) || list_any (λ o. bytes_eq name o.id.name) r.oneofs) at
     ∙ (members_shown links rows.extensions T m.0 name r same ∙ sym (ap (λ o. list_any (bytes_eq name) (texts_in member_texts o)) found))
 
+pub field_there : (pool : LinkedPool) (T : ℕ) (scope name : List ℕ) → Some T ≡ name_place (message_names (flat_of pool)) scope → is_some (named_field (fields_at (pool_rows pool) T) name) ≡ true → true ≡ has_member (flat_of pool) scope name
+field_there pool T scope name e has =
+    let r = item_there (pool_rows pool).messages T (message_within pool T scope e) in
+    sym (ap (λ b. b || list_any (λ o. bytes_eq name o.id.name) r.0.oneofs) has) ∙ member_there pool T scope name r.0 e r.1
+
 pub no_member : (pool : LinkedPool) (scope name : List ℕ) → None ≡ name_place (message_names (flat_of pool)) scope → false ≡ has_member (flat_of pool) scope name
 no_member pool scope name e =
     let none = found_nowhere (λ m. bytes_eq (message_name m) scope) (flat_of pool).messages (first_named message_name scope (flat_of pool).messages ∙ sym e) in
@@ -300,9 +306,6 @@ methods_shown : (links : Links) (s : FlatServiceRow) (name : List ℕ) (r : Serv
 methods_shown links s name r same =
     sym (ap (λ (q : ServiceRow). list_any (λ m. bytes_eq name m.id.name) q.methods) same)
     ∙ (any_mapped (λ (m : MethodRow). bytes_eq name m.id.name) (linked_method links) s.methods ∙ sym (any_mapped (bytes_eq name) method_text s.methods))
-
-pub service_within : (pool : LinkedPool) (S : ℕ) (scope : List ℕ) → Some S ≡ lookups.service_place (pool_catalog pool) scope → S < length (pool_catalog pool).services
-service_within pool S scope e = place_within (λ s. bytes_eq (catalog.service_name s) scope) (pool_catalog pool).services S (sym e)
 
 -- The service that a scope names tells whether it has a method of a name.
 pub method_there : (pool : LinkedPool) (S : ℕ) (scope name : List ℕ) (r : ServiceRow) → Some S ≡ lookups.service_place (pool_catalog pool) scope → slice_get (pool_catalog pool).services S ≡ Some r →
