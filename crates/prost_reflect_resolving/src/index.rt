@@ -88,7 +88,7 @@ fn numbers_by_enum(
 /// `AllocError` if out of memory.
 pub fn indexed<'p>(alloc: Global, base: Base<'p>, flat: &Flat) -> Result<Index<'p>, AllocError>
     ensures index { IfOk result (λ index. IsIndex index (flat_rows flat.now)) }
-    ensures base { IfOk result (λ index. index.base ≡ base) }
+    ensures base { IfOk result (λ index. index.base ≡ base.entry) }
 {
     let messages = message_names(alloc, flat.messages.as_slice())?;
     let enums = enum_names(alloc, flat.enums.as_slice())?;

@@ -147,7 +147,7 @@ pub fn all_resolved<'f, 'a>(
     flat: &'f Flat<'a>,
 ) -> Result<Resolved<'f>, AllocError>
     ensures resolved { IfOk result (λ resolved. IsResolved resolved (flat_rows flat.now)) }
-    ensures base { IfOk result (λ resolved. resolved.index.base ≡ base) }
+    ensures base { IfOk result (λ resolved. resolved.index.base ≡ base.entry) }
 {
     let index = indexed(alloc, base, flat)?;
     let fields = resolved_fields(alloc, &index, flat, flat.messages.as_slice())?;
