@@ -4,9 +4,10 @@ use Rattle.std.specs.List.{list_any}
 use Rattle.std.specs.Option.{is_some}
 use Rattle.std.specs.Prelude.{find, nat_eq, not, option_map, position, slice_get}
 use Rattle.std.specs.Str.{bytes_eq}
-use Rattle.std.proofs.Common.{ℕ, zero, suc, Bool, true, false, List, [], length, map, Option, Some, None, refl, sym, ap, ap₂, ◌∙◌, arith, subst, true≢false}
+use Rattle.std.proofs.Common.{ℕ, zero, suc, Bool, true, false, List, [], length, map, Some, None, refl, sym, ap, ap₂, ◌∙◌, arith, true≢false}
+use Rattle.std.proofs.Math.Bool.{or-false}
 use Rattle.std.proofs.lemmas.Bool.{or_parts}
-use Rattle.std.proofs.lemmas.List.{length-map, map-append}
+use Rattle.std.proofs.lemmas.List.{map-append}
 use Rattle.std.proofs.lemmas.List.Folds.{list_any-append}
 use Rattle.std.proofs.lemmas.Option.{same_Some, slice_get-map}
 use Rattle.prost_reflect_types.specs.declared.EnumValueDescriptorProto.{EnumValueDescriptorProto}
@@ -21,7 +22,7 @@ use Rattle.prost_reflect_tables.specs.LinkedCatalog.{linked_method, linked_servi
 use Rattle.prost_reflect_tables.specs.Linking.{Links, belonging, declared_fields, extended_place, fields_of_message, in_order, linked_enum, linked_field, linked_message, linked_value, links_of, oneofs_from}
 use Rattle.prost_reflect_tables.specs.Names.{joined, text_or_empty}
 use Rattle.prost_reflect_tables.specs.Places.{fields_at, fields_or_none}
-use Rattle.prost_reflect_tables.specs.Rows.{EnumRow, EnumValueRow, FieldRow, MessageRow, OneofRow, TableRows}
+use Rattle.prost_reflect_tables.specs.Rows.{EnumRow, EnumValueRow, FieldRow, MessageRow, TableRows}
 use Rattle.prost_reflect_tables.specs.declared.error.PoolError.TheVariants as errors
 use Rattle.prost_reflect_tables.proofs.CatalogRanges.{holds_at}
 use Rattle.prost_reflect_pool.specs.Lookups.{named_field}
@@ -31,7 +32,7 @@ use Rattle.prost_reflect_pool.specs.declared.pool.LinkedPool.{LinkedPool}
 use Rattle.prost_reflect_pool.proofs.InCatalog as catalog
 use Rattle.prost_reflect_pool.proofs.UniqueNames.{back_alone, front_alone}
 use Rattle.prost_reflect_base.specs.Inside.{cut_at_a_dot, field_text, has_inside, has_member, has_method, member_texts, message_name, method_text, method_texts, oneof_text, service_name, texts_in}
-use Rattle.prost_reflect_base.proofs.Lists.{or_true, turned, none_at, any_mapped, any_same, some_place, found_there, found_nowhere, place_within, first_named, some_named}
+use Rattle.prost_reflect_base.proofs.Lists.{turned, none_at, any_mapped, any_same, some_place, found_there, found_nowhere, place_within, first_named}
 use Rattle.prost_reflect_base.proofs.Linked.{flat_of, rows_are, catalog_is, message_at, message_count, services_named}
 use Rattle.prost_reflect_base.proofs.NamesInside.{MessageNames, ServiceNames, message_names_placed, service_names_placed}
 use Rattle.prost_reflect_base.proofs.Numbers.{any_ordered}
@@ -219,10 +220,6 @@ none_pass : {X : Type 0} (p : X → Bool) (xs : List X) → ((x : X) → p x ≡
 none_pass p [] h = refl
 none_pass p (x ∷ xs) h = ap₂ (λ (a b : Bool). a || b) (h x) (none_pass p xs h)
 
-or_false : (a : Bool) → (a || false) ≡ a
-or_false true = refl
-or_false false = refl
-
 abbrev is_field_named : List ℕ → FieldRow → Bool
 is_field_named name f = not f.is_extension && bytes_eq f.id.name name
 
@@ -244,7 +241,7 @@ fields_named links extensions T m name =
     ∙ (any_same (λ d. is_field_named name (linked_field links false d)) (λ d. bytes_eq name (field_text d)) m.fields (λ d. declared_named links name d ∙ turned (field_text d) name)
     ∙ sym (any_mapped (bytes_eq name) field_text m.fields)))
     (any_mapped (is_field_named name) (linked_field links true) extending ∙ none_pass (λ d. is_field_named name (linked_field links true d)) extending (extension_unnamed links name))
-    ∙ or_false (list_any (bytes_eq name) (map field_text m.fields))))
+    ∙ or-false (list_any (bytes_eq name) (map field_text m.fields))))
 
 oneofs_named : (fields : List FieldRow) (declared : List (DefinitionRow FieldDescriptorProto)) (o : ℕ) (ds : List (DefinitionRow OneofDescriptorProto)) (name : List ℕ) → list_any (λ r. bytes_eq name r.id.name) (oneofs_from fields declared o ds) ≡ list_any (bytes_eq name) (map oneof_text ds)
 oneofs_named fields declared o [] name = refl

@@ -1,6 +1,6 @@
 -- What a pool has linked, beside the definitions of its files in flat lists.
-use Rattle.std.specs.Prelude.{◌≡◌, ◌+◌, ◌<◌, ◌∷◌}
-use Rattle.std.specs.Prelude.{find, option_map, position, slice_get, unwrap_or}
+use Rattle.std.specs.Prelude.{◌≡◌, ◌+◌, ◌∷◌}
+use Rattle.std.specs.Prelude.{option_map, slice_get, unwrap_or}
 use Rattle.std.specs.Option.{option_and_then}
 use Rattle.std.specs.Str.{bytes_eq}
 use Rattle.std.proofs.Common.{ℕ, ℤ, zero, suc, Bool, false, List, [], get_or, length, map, Option, Some, None, refl, sym, ap, ◌∙◌, arith}
@@ -11,24 +11,24 @@ use Rattle.prost_reflect_types.specs.declared.DescriptorProto.TheViews.{out-Desc
 use Rattle.prost_reflect_types.specs.declared.ExtensionRange.{ExtensionRange}
 use Rattle.prost_reflect_types.specs.declared.FieldDescriptorProto.{FieldDescriptorProto}
 use Rattle.prost_reflect_types.specs.declared.FileDescriptorProto.{FileDescriptorProto}
-use Rattle.prost_reflect_tables.specs.CatalogRows.{CatalogRows, ExtensionRow}
+use Rattle.prost_reflect_tables.specs.CatalogRows.{CatalogRows}
 use Rattle.prost_reflect_tables.specs.EntryFaults.{is_entry_message}
 use Rattle.prost_reflect_tables.specs.Faults.{message_names, enum_names, names_of}
-use Rattle.prost_reflect_tables.specs.Flat.{DefinitionRow, FlatMessageRow, FlatEnumRow, FlatRows, MessageParts, flattened, message_parts}
+use Rattle.prost_reflect_tables.specs.Flat.{DefinitionRow, FlatMessageRow, FlatEnumRow, FlatRows, MessageParts, flattened}
 use Rattle.prost_reflect_tables.specs.LinkedCatalog.{linked_catalog, linked_extension, linked_service, service_names}
 use Rattle.prost_reflect_tables.specs.LinkedCatalog.{IsCatalogOf}
 use Rattle.prost_reflect_tables.specs.Linking.{Links, links_of, fields_of_message, linked_enum, linked_rows, linked_value, messages_from}
 use Rattle.prost_reflect_tables.specs.Linking.{linked_message}
-use Rattle.prost_reflect_tables.specs.Rows.{EnumRow, EnumValueRow, FieldRow, MessageRow, TableRows, enum_row, enum_value_row}
+use Rattle.prost_reflect_tables.specs.Rows.{EnumValueRow, FieldRow, MessageRow, TableRows, enum_row, enum_value_row}
 use Rattle.prost_reflect_tables.specs.declared.tables.EnumTable.{EnumTable}
 use Rattle.prost_reflect_tables.specs.declared.tables.EnumValueTable.{EnumValueTable}
 use Rattle.prost_reflect_tables.specs.WrittenDefaults.{number_named}
-use Rattle.prost_reflect_tables.proofs.CatalogLinks.{ExtensionThere, mapped_at}
+use Rattle.prost_reflect_tables.proofs.CatalogLinks.{ExtensionThere}
 use Rattle.prost_reflect_tables.proofs.CatalogRanges.{holds_at}
 use Rattle.prost_reflect_pool.specs.Enums.{values_at, values_or_none}
 use Rattle.prost_reflect_pool.specs.Lookups.{extension_name, full_name_or_empty, named_value}
 use Rattle.prost_reflect_pool.specs.Pools.{files_of, pool_catalog, pool_rows}
-use Rattle.prost_reflect_pool.specs.RecordPaths.{AnyRecord, MessageRecord, record_in, record_of}
+use Rattle.prost_reflect_pool.specs.RecordPaths.{MessageRecord, record_in, record_of}
 use Rattle.prost_reflect_pool.specs.declared.pool.LinkedPool.{LinkedPool}
 use Rattle.prost_reflect_pool.proofs.InCatalog.{enum_name, linked_name, linked_names, map_twice, service_name}
 use Rattle.prost_reflect_pool.proofs.InCatalog as catalog

@@ -3,20 +3,18 @@ use Rattle.std.specs.Prelude.{◌≡◌, ◌+◌, ◌<◌, ◌||◌, ◌∷◌}
 use Rattle.std.specs.Bool.{one_answer}
 use Rattle.std.specs.List.{list_any, position_from, position_or_len}
 use Rattle.std.specs.Option.{is_some}
-use Rattle.std.specs.Prelude.{find, nat_lt, option_map, position, slice_get}
+use Rattle.std.specs.Prelude.{find, nat_lt, position, slice_get}
 use Rattle.std.specs.Str.{bytes_eq}
 use Rattle.std.proofs.Common.{ℕ, zero, suc, Bool, true, false, cond, List, [], length, map, Option, Some, None, refl, sym, ap, ap₂, ◌∙◌, arith, ltb-true}
+use Rattle.std.proofs.Math.Bool.{or-true}
 use Rattle.std.proofs.lemmas.Iterator.Adapters.{position_from-zero}
 use Rattle.std.proofs.lemmas.List.Folds.{find_at}
 use Rattle.std.proofs.lemmas.Option.{cond_some, same_Some}
 use Rattle.std.proofs.lemmas.Slice.Eq.{bytes_eq-Decides}
 use Rattle.prost_reflect_tables.specs.Faults.{name_place}
+use Rattle.prost_reflect_tables.proofs.Walks.{rows_any}
 
 -- TESTS
-
-pub or_true : (a : Bool) → (a || true) ≡ true
-or_true true = refl
-or_true false = refl
 
 pub same_answers : (a b : Bool) → (a ≡ true → b ≡ true) → (b ≡ true → a ≡ true) → a ≡ b
 same_answers true b f g = sym (f refl)
@@ -30,7 +28,7 @@ turned a b = one_answer {P = a ≡ b} (bytes_eq a b) (bytes_eq b a) (bytes_eq-De
 pub any_at : {X : Type 0} (p : X → Bool) (xs : List X) (i : ℕ) (x : X) → slice_get xs i ≡ Some x → p x ≡ true → list_any p xs ≡ true
 any_at p [] i x at is = absurd cc
 any_at p (y ∷ xs) zero x at is = ap (λ b. b || list_any p xs) (ap p (same_Some y x at) ∙ is)
-any_at p (y ∷ xs) (suc i) x at is = ap (λ b. p y || b) (any_at p xs i x at is) ∙ or_true (p y)
+any_at p (y ∷ xs) (suc i) x at is = ap (λ b. p y || b) (any_at p xs i x at is) ∙ or-true (p y)
 
 -- An item that passes, at its place.
 pub record Passing {X : Type 0} (p : X → Bool) (xs : List X) : Type 0 where
@@ -56,8 +54,7 @@ none_at {X} p xs i x none at = go (p x) refl
     go false is = is
 
 pub any_mapped : {X Y : Type 0} (p : Y → Bool) (f : X → Y) (xs : List X) → list_any p (map f xs) ≡ list_any (λ x. p (f x)) xs
-any_mapped p f [] = refl
-any_mapped p f (x ∷ xs) = ap (λ b. p (f x) || b) (any_mapped p f xs)
+any_mapped p f xs = sym (rows_any p f xs)
 
 pub any_same : {X : Type 0} (p q : X → Bool) (xs : List X) → ((x : X) → p x ≡ q x) → list_any p xs ≡ list_any q xs
 any_same p q [] h = refl

@@ -1,5 +1,5 @@
 -- The names that files give to what stands in a message type or a service: a full name, a dot and an own name.
-use Rattle.std.specs.Prelude.{◌≡◌, ◌+◌, ◌∷◌, ◌++◌}
+use Rattle.std.specs.Prelude.{◌≡◌, ◌+◌, ◌∷◌}
 use Rattle.std.specs.List.{AllByRecursion, All}
 use Rattle.std.specs.declared.alloc.Global.{Global}
 use Rattle.std.proofs.Common.{ℕ, List, [], map, length, Option, String, refl, sym, ap, subst}

@@ -1,5 +1,5 @@
 -- The numbers of fields and extensions are found among the rows of their message types.
-use Rattle.std.specs.Prelude.{◌≡◌, ◌+◌, ◌<◌, ◌≤◌, ◌^◌, ◌==◌, ◌&&◌, ◌||◌, ◌∷◌, ◌++◌}
+use Rattle.std.specs.Prelude.{◌≡◌, ◌+◌, ◌<◌, ◌≤◌, ◌^◌, ◌==◌, ◌&&◌, ◌||◌, ◌∷◌}
 use Rattle.std.specs.List.{list_any, position_from}
 use Rattle.std.specs.Ordering.{int_eq}
 use Rattle.std.specs.Int.{FitsUnsignedBits}
@@ -7,6 +7,7 @@ use Rattle.std.specs.Prelude.{nat_eq, nat_le, nat_lt, slice_get, unsigned_abs}
 use Rattle.std.specs.Str.{bytes_eq}
 use Rattle.std.proofs.Common.{ℕ, zero, suc, ℤ, pos, negsuc, Bool, true, false, cond, not, List, [], length, map, Option, Some, None, String, string_bytes, refl, sym, ap, ap₂, ◌∙◌, arith, true≢false, ⊎_elim}
 use Rattle.std.specs.declared.alloc.Global.{Global}
+use Rattle.std.proofs.Math.Bool.{and-false, or-false}
 use Rattle.std.proofs.lemmas.Bool.{cases_lt, ne_eqb, eq-eqb, le-ltb, or_parts, eqb-true}
 use Rattle.std.proofs.lemmas.Bool.Decides.{Decides-int_eq}
 use Rattle.std.proofs.lemmas.List.{length-map}
@@ -14,7 +15,7 @@ use Rattle.std.proofs.lemmas.List.Folds.{list_any-append}
 use Rattle.prost_reflect_types.specs.declared.FieldDescriptorProto.{FieldDescriptorProto}
 use Rattle.prost_reflect_types.specs.declared.FileDescriptorProto.{FileDescriptorProto}
 use Rattle.prost_reflect_tables.specs.Checked.{Checked}
-use Rattle.prost_reflect_tables.specs.Faults.{Numbered, same_numbered, number_or_zero, numbered_fields, numbered_in, numbered_at, numbered_extensions, all_numbered, is_field_number, number_bad, message_names, name_place, place_named}
+use Rattle.prost_reflect_tables.specs.Faults.{Numbered, same_numbered, number_or_zero, numbered_fields, numbered_in, numbered_at, numbered_extensions, all_numbered, is_field_number, number_bad, message_names, place_named}
 use Rattle.prost_reflect_tables.specs.Flat.{DefinitionRow, FlatMessageRow, FlatRows}
 use Rattle.prost_reflect_tables.specs.Linking.{Links, links_of, natural_or_zero, is_place, put_in_order, in_order, linked_field, belonging, extended_place, declared_fields, fields_of_message, linked_message, messages_from, linked_rows}
 use Rattle.prost_reflect_tables.specs.Names.{without_dot}
@@ -97,11 +98,7 @@ module _ (T n : ℕ) (some : 0 < n) where
 
   -- The fields of the message at a place.
   own_numbers : (i : ℕ) (ds : List FieldDef) → list_any (same_numbered one) (numbered_fields i ds) ≡ (nat_eq T i && list_any is_its ds)
-  own_numbers i [] = go (nat_eq T i)
-    where
-      go : (b : Bool) → false ≡ (b && false)
-      go true = refl
-      go false = refl
+  own_numbers i [] = sym (and-false (nat_eq T i))
   own_numbers i (d ∷ ds) = ap (λ c. (nat_eq T i && is_its d) || c) (own_numbers i ds) ∙ go (nat_eq T i) (is_its d) (list_any is_its ds)
     where
       go : (a b c : Bool) → ((a && b) || (a && c)) ≡ (a && (b || c))
@@ -118,17 +115,13 @@ module _ (T n : ℕ) (some : 0 < n) where
       list_any-append (same_numbered one) (numbered_fields i m.fields) (numbered_in (i + 1) ms)
       ∙ ap₂ (λ a b. a || b) (own_numbers i m.fields ∙ ap (λ b. b && list_any is_its m.fields) (ne_eqb T i (λ same. absurd (omega arith)))) (later_numbers (i + 1) ms (omega arith))
 
-  or_false : (a : Bool) → (a || false) ≡ a
-  or_false true = refl
-  or_false false = refl
-
   in_numbers : (i k : ℕ) (ms : List FlatMessageRow) → T ≡ i + k → list_any (same_numbered one) (numbered_in i ms) ≡ list_any is_its (fields_of_place (slice_get ms k))
   unfolding fields_of_place
   in_numbers i k [] e = refl
   in_numbers i zero (m ∷ ms) e =
       list_any-append (same_numbered one) (numbered_fields i m.fields) (numbered_in (i + 1) ms)
       ∙ (ap₂ (λ a b. a || b) (own_numbers i m.fields ∙ ap (λ b. b && list_any is_its m.fields) (eq-eqb T i (omega (arith, e)))) (later_numbers (i + 1) ms (omega (arith, e)))
-      ∙ or_false (list_any is_its m.fields))
+      ∙ or-false (list_any is_its m.fields))
   in_numbers i (suc k) (m ∷ ms) e =
       list_any-append (same_numbered one) (numbered_fields i m.fields) (numbered_in (i + 1) ms)
       ∙ ap₂ (λ a b. a || b) (own_numbers i m.fields ∙ ap (λ b. b && list_any is_its m.fields) (ne_eqb T i (λ same. absurd (omega (arith, e))))) (in_numbers (i + 1) k ms (omega (arith, e)))
@@ -142,7 +135,7 @@ module _ (T n : ℕ) (some : 0 < n) where
       ∙ go (extended_place (links_of rows) d) (belonging (extended_place (links_of rows)) ds T))
     where
       inner : (b : Bool) (rest : List FieldDef) → ((b && int_eq (pos n) (number_or_zero d.proto.number)) || false) || list_any has (map (linked_field (links_of rows) true) rest) ≡ list_any has (map (linked_field (links_of rows) true) (cond b (d ∷ rest) rest))
-      inner true rest = ap (λ c. c || list_any has (map (linked_field (links_of rows) true) rest)) (or_false (int_eq (pos n) (number_or_zero d.proto.number)) ∙ sym (linked_has (links_of rows) true d))
+      inner true rest = ap (λ c. c || list_any has (map (linked_field (links_of rows) true) rest)) (or-false (int_eq (pos n) (number_or_zero d.proto.number)) ∙ sym (linked_has (links_of rows) true d))
       inner false rest = refl
 
       go : (p : Option ℕ) (rest : List FieldDef) → list_any (same_numbered one) (numbered_at (number_or_zero d.proto.number) p) || list_any has (map (linked_field (links_of rows) true) rest) ≡ list_any has (map (linked_field (links_of rows) true) (cond (is_place T p) (d ∷ rest) rest))
@@ -222,11 +215,7 @@ module _ (T : ℕ) (z : ℤ) (bad : is_field_number z ≡ false) where
   none_of_place i [] good = refl
   none_of_place i (d ∷ ds) good =
       let parts = or_parts (number_bad d) (list_any number_bad ds) good in
-      ap₂ (λ a b. (nat_eq T i && a) || b) (not_this d parts.0) (none_of_place i ds parts.1) ∙ go (nat_eq T i)
-    where
-      go : (b : Bool) → ((b && false) || false) ≡ false
-      go true = refl
-      go false = refl
+      ap₂ (λ a b. (nat_eq T i && a) || b) (not_this d parts.0) (none_of_place i ds parts.1) ∙ ap (λ b. b || false) (and-false (nat_eq T i))
 
   none_in : (i : ℕ) (ms : List FlatMessageRow) → list_any (λ m. list_any number_bad m.fields) ms ≡ false → list_any (same_numbered this) (numbered_in i ms) ≡ false
   none_in i [] good = refl
@@ -241,13 +230,9 @@ module _ (T : ℕ) (z : ℤ) (bad : is_field_number z ≡ false) where
       list_any-append (same_numbered this) (numbered_at (number_or_zero d.proto.number) (place_named (message_names rows) d.proto.extendee)) (numbered_extensions rows ds)
       ∙ ap₂ (λ a b. a || b) (go (place_named (message_names rows) d.proto.extendee) (not_this d parts.0)) (none_extends rows ds parts.1)
     where
-      and_false : (b : Bool) → ((b && false) || false) ≡ false
-      and_false true = refl
-      and_false false = refl
-
       go : (p : Option ℕ) → is_this d ≡ false → list_any (same_numbered this) (numbered_at (number_or_zero d.proto.number) p) ≡ false
       go None other = refl
-      go (Some k) other = ap (λ b. (nat_eq T k && b) || false) other ∙ and_false (nat_eq T k)
+      go (Some k) other = ap (λ b. (nat_eq T k && b) || false) other ∙ ap (λ b. b || false) (and-false (nat_eq T k))
 
   -- Where files are checked, no field has a number that is none of a field.
   no_field : (files : List FileDescriptorProto) (rows : FlatRows) → Checked files rows → list_any (same_numbered this) (all_numbered rows) ≡ false
@@ -280,11 +265,7 @@ number_read pool T n (negsuc m) fits is = absurd fits
 far : (m : ℕ) → (m < 2 ^ 32 → ⊥) → is_field_number (pos m) ≡ false
 far m unfit =
     let above : 2 ^ 29 ≤ m = ⊎_elim (λ less. absurd (unfit less)) (λ more. omega arith) (cases_lt m (2 ^ 32)) in
-    ap (λ b. nat_lt 0 m && b) (le-ltb m (2 ^ 29) above) ∙ go (nat_lt 0 m)
-  where
-    go : (b : Bool) → (b && false) ≡ false
-    go true = refl
-    go false = refl
+    ap (λ b. nat_lt 0 m && b) (le-ltb m (2 ^ 29) above) ∙ and-false (nat_lt 0 m)
 
 -- and no field has another one.
 pub number_unread : (pool : LinkedPool) (T : ℕ) (z : ℤ) → (FitsUnsignedBits 32 z → ⊥) → false ≡ list_any (same_numbered (record { message = T; number = z })) (all_numbered (flat_of pool))

@@ -4,6 +4,7 @@ use Rattle.std.specs.List.{list_any}
 use Rattle.std.specs.Prelude.{find, option_map, slice_get}
 use Rattle.std.specs.Str.{bytes_eq}
 use Rattle.std.proofs.Common.{ℕ, zero, suc, Bool, true, false, cond, List, [], map, Option, Some, None, refl, sym, ap, ◌∙◌, append_assoc, append-nil}
+use Rattle.std.proofs.Math.Bool.{or-true}
 use Rattle.std.proofs.lemmas.Bool.{eqb-true, or_parts}
 use Rattle.std.proofs.lemmas.List.Folds.{list_any-append}
 use Rattle.std.proofs.lemmas.Option.{same_Some, slice_get-map}
@@ -13,7 +14,7 @@ use Rattle.prost_reflect_tables.specs.Names.{joined}
 use Rattle.prost_reflect_pool.proofs.ExtensionPlaces.{found_at}
 use Rattle.prost_reflect_pool.proofs.UniqueNames.{back_alone}
 use Rattle.prost_reflect_base.specs.Inside.{texts_in, holds_name, cut_at_a_dot}
-use Rattle.prost_reflect_base.proofs.Lists.{or_true, same_answers, turned, any_at, Passing, any_where}
+use Rattle.prost_reflect_base.proofs.Lists.{same_answers, turned, any_at, Passing, any_where}
 
 -- NAMES ONE BEHIND ANOTHER
 
@@ -72,7 +73,7 @@ cut_found : (test : List ℕ → List ℕ → Bool) (front scope name : List ℕ
 cut_found test front [] name is = ap (λ b. b || cut_at_a_dot test (front ++ 46 ∷ []) name) (ap (λ f. test f name) (sym (append-nil front)) ∙ is)
 cut_found test front (b ∷ scope) name is =
     ap (λ c. (b == 46 && test front (scope ++ 46 ∷ name)) || c) (cut_found test (front ++ b ∷ []) scope name (ap (λ f. test f name) (append_assoc front (b ∷ []) scope) ∙ is))
-    ∙ or_true (b == 46 && test front (scope ++ 46 ∷ name))
+    ∙ or-true (b == 46 && test front (scope ++ 46 ∷ name))
 
 record Cut (test : List ℕ → List ℕ → Bool) (front text : List ℕ) : Type 0 where
   scope : List ℕ

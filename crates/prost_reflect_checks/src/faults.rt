@@ -114,10 +114,10 @@ pub fn check_added<'f, 'a>(
     files: &[&FileDescriptorProto],
     flat: &'f Flat<'a>,
 ) -> Result<Resolved<'f>, PoolError>
-    ensures ok { OnOk result ((e : PoolError) → added_fault e (files_below base) (file_list files.now) (rows_below base) (flat_rows flat.now) ≡ false) }
+    ensures ok { OnOk result ((e : PoolError) → added_fault e (files_below base.entry) (file_list files.now) (rows_below base.entry) (flat_rows flat.now) ≡ false) }
     ensures resolved { IfOk result (λ resolved. IsResolved resolved (flat_rows flat.now)) }
-    ensures base { IfOk result (λ resolved. resolved.index.base ≡ base) }
-    ensures stands { IfErr result (λ e. e ≢ pool_errors.OutOfMemory → added_fault e (files_below base) (file_list files.now) (rows_below base) (flat_rows flat.now) ≡ true) }
+    ensures base { IfOk result (λ resolved. resolved.index.base ≡ base.entry) }
+    ensures stands { IfErr result (λ e. e ≢ pool_errors.OutOfMemory → added_fault e (files_below base.entry) (file_list files.now) (rows_below base.entry) (flat_rows flat.now) ≡ true) }
 {
     let resolved = all_resolved(alloc, base, flat)?;
     check_faults(alloc, &FAULTS, files, flat, &resolved)?;

@@ -148,7 +148,7 @@ fn repeats(names: &mut Vec<&str>) -> bool
 
 /// Whether a definition of the pool has one of the names.
 fn is_one_taken(base: Base<'_>, names: &[&str]) -> bool
-    ensures { result ≡ list_any (λ n. list_any (bytes_eq n) (full_names (rows_below base))) (text_list names.now) }
+    ensures { result ≡ list_any (λ n. list_any (bytes_eq n) (full_names (rows_below base.entry))) (text_list names.now) }
 {
     any(names, &|name| base.has_name(name))
 }
@@ -159,7 +159,7 @@ fn is_one_taken(base: Base<'_>, names: &[&str]) -> bool
 ///
 /// `AllocError` if out of memory.
 pub fn has_duplicate_name(alloc: Global, base: Base<'_>, flat: &Flat) -> Result<bool, AllocError>
-    ensures { IfOk result (λ b. b ≡ added_names_repeat (rows_below base) (flat_rows flat.now)) }
+    ensures { IfOk result (λ b. b ≡ added_names_repeat (rows_below base.entry) (flat_rows flat.now)) }
 {
     let mut names = full_names(alloc, flat)?;
     Ok(is_one_taken(base, names.as_slice()) || repeats(&mut names))

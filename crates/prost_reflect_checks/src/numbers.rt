@@ -71,7 +71,7 @@ fn add_extensions(
 
 /// Whether a field or an extension of the pool has one of the numbers in its message.
 fn is_one_taken(base: Base<'_>, numbers: &[(usize, i32)]) -> bool
-    ensures { result ≡ list_any (λ n. list_any (same_numbered n) (all_numbered (rows_below base))) (numbered_list numbers.now) }
+    ensures { result ≡ list_any (λ n. list_any (same_numbered n) (all_numbered (rows_below base.entry))) (numbered_list numbers.now) }
 {
     any(numbers, &|number| base.has_number(number.0, number.1))
 }

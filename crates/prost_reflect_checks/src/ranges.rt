@@ -2,12 +2,11 @@
 //!
 //! The extension ranges of each message that is extended are put in order once, so that a number is found among them at once.
 
-ghost use Rattle.std.specs.Prelude.{◌≡◌, IfOk, Some, map, option_map, slice_get};
-ghost use Rattle.std.specs.List.{list_any};
+ghost use Rattle.std.specs.Prelude.{◌≡◌, IfOk, map, option_map, slice_get};
+ghost use Rattle.std.specs.List.{All, list_any};
 ghost use Rattle.std.specs.List.Sorted.{IsNonDecreasingBy};
 ghost use Rattle.prost_reflect_tables.specs.Faults.{range_bad, message_range_bad, enum_range_bad, bad_range, is_in_range, extension_outside};
 ghost use Rattle.prost_reflect_tables.specs.FlatViews.{message_row, enum_row, flat_rows};
-ghost use Rattle.prost_reflect_tables.specs.Flat.{FlatRows};
 ghost use Rattle.prost_reflect_resolving.specs.Indexed.{all_rows};
 ghost use Rattle.prost_reflect_resolving.specs.Resolved.{resolved_row, IsResolved};
 ghost use Rattle.prost_reflect_tables.specs.ResolvedFaults.{found_outside};
@@ -195,9 +194,7 @@ fn is_covered_at(
     spans: &[(usize, Vec<(u32, u32)>)],
     place: usize,
 ) -> bool
-    ghost rows: { FlatRows }
-    requires spans { AreSpansIn rows spans.now }
-    requires ranges { ranges_of (slice_get rows.messages place) ≡ Some ranges.now }
+    requires { All (λ own. own.0 ≡ place → AreSpansOf own.1.items ranges.now) spans.now }
     ensures { result ≡ list_any (is_in_range number) ranges.now }
 {
     if let Ok(found) = spans.binary_search_by_key(&place, |own| own.0) {

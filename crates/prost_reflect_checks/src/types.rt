@@ -36,7 +36,7 @@ fn file_place(
     name: &str,
 ) -> Option<usize>
     requires { IsIndexFrom (length (files_below base)) index.now (file_names (file_list files.now)) }
-    ensures { result ≡ name_place (file_names (files_below base ++ file_list files.now)) name.now }
+    ensures { result ≡ name_place (file_names (files_below base.entry ++ file_list files.now)) name.now }
 {
     match base.file_place(name) {
         Some(place) => Some(place),
@@ -51,7 +51,7 @@ fn is_dependency_missing(
     file: &FileDescriptorProto,
 ) -> bool
     requires { IsIndexFrom (length (files_below base)) index.now (file_names (file_list files.now)) }
-    ensures { result ≡ dependency_missing (file_names (files_below base ++ file_list files.now)) file.now }
+    ensures { result ≡ dependency_missing (file_names (files_below base.entry ++ file_list files.now)) file.now }
 {
     any(
         file.dependency.as_slice(),
@@ -69,7 +69,7 @@ pub fn has_missing_dependency(
     base: Base<'_>,
     files: &[&FileDescriptorProto],
 ) -> Result<bool, AllocError>
-    ensures { IfOk result (λ b. b ≡ list_any (dependency_missing (file_names (files_below base ++ file_list files.now))) (file_list files.now)) }
+    ensures { IfOk result (λ b. b ≡ list_any (dependency_missing (file_names (files_below base.entry ++ file_list files.now))) (file_list files.now)) }
 {
     let names = file_names(alloc, files)?;
     let index = index_from(alloc, base.file_count(), names.as_slice())?;

@@ -1,33 +1,23 @@
 -- Whether an item of a list stands among those before it: the order of the list is all one.
 use Rattle.std.specs.Prelude.{◌≡◌, ◌||◌, ◌∷◌, ◌++◌}
-use Rattle.prost_reflect_growth.proofs.Common.{list_any, Bool, true, false, List, [], refl, sym, ap, ap₂, ◌∙◌, append_assoc, append-nil, list_any-append, repeats_by}
+use Rattle.prost_reflect_growth.proofs.Common.{list_any, Bool, true, false, List, [], refl, sym, ap, ap₂, ◌∙◌, append_assoc, append-nil, or_assoc, or_comm, list_any-append, repeats_by}
 
 -- One of these is among those.
 abbrev pub meets : {X : Type 0} → (X → X → Bool) → (before : List X) → List X → Bool
 meets eq before ns = list_any (λ n. list_any (eq n) before) ns
 
-or_swap : (a b c : Bool) → (a || (b || c)) ≡ (b || (a || c))
+pub or_swap : (a b c : Bool) → (a || (b || c)) ≡ (b || (a || c))
 or_swap true true c = refl
 or_swap true false c = refl
 or_swap false b c = refl
-
-or_assoc : (a b c : Bool) → ((a || b) || c) ≡ (a || (b || c))
-or_assoc true b c = refl
-or_assoc false b c = refl
 
 or_pairs : (a b c d : Bool) → ((a || b) || (c || d)) ≡ ((a || c) || (b || d))
 or_pairs true b c d = refl
 or_pairs false b c d = or_swap b c d
 
-or_turned : (p q : Bool) → (p || q) ≡ (q || p)
-or_turned true true = refl
-or_turned true false = refl
-or_turned false true = refl
-or_turned false false = refl
-
 or_last : (p q r : Bool) → ((p || q) || r) ≡ ((p || r) || q)
 or_last true q r = refl
-or_last false q r = or_turned q r
+or_last false q r = or_comm q r
 
 module _ {X : Type 0} (eq : X → X → Bool) where
   -- Only what is among those before counts.
@@ -111,4 +101,4 @@ module _ {X : Type 0} (eq : X → X → Bool) where
     pub again_behind : (xs ys : List X) → repeats_by eq [] xs ≡ false → repeats_by eq [] (xs ++ ys) ≡ meets eq xs ys || repeats_by eq [] ys
     again_behind xs ys none =
         again_append [] xs ys
-        ∙ (ap (λ p. p || repeats_by eq xs ys) none ∙ (again_parts [] xs ys ∙ or_turned (repeats_by eq [] ys) (meets eq xs ys)))
+        ∙ (ap (λ p. p || repeats_by eq xs ys) none ∙ (again_parts [] xs ys ∙ or_comm (repeats_by eq [] ys) (meets eq xs ys)))

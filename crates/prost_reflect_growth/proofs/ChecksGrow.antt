@@ -205,7 +205,8 @@ parted {X} eq turned b m n e f x y s t =
 
 names_more : (old new : FlatRows) →
     full_names (behind old new)
-    ≡ (names_in_messages old.messages ++ names_in_messages new.messages) ++ (names_in_enums old.enums ++ names_in_enums new.enums) ++ (names_of old.extensions ++ names_of new.extensions) ++ (names_in_services old.services ++ names_in_services new.services)
+    ≡ (names_in_messages old.messages ++ names_in_messages new.messages) ++ (names_in_enums old.enums ++ names_in_enums new.enums)
+    ++ (names_of old.extensions ++ names_of new.extensions) ++ (names_in_services old.services ++ names_in_services new.services)
 names_more old new =
     ap₂ (λ a b. a ++ b) (ap₂ (λ a b. a ++ b) (ap₂ (λ a b. a ++ b) (messages_names old.messages new.messages) (enums_names old.enums new.enums)) (map-append (λ (d : FieldDef). d.full_name) old.extensions new.extensions)) (services_names old.services new.services)
 
@@ -252,7 +253,8 @@ duplicate_numbers old new u h =
     ∙ again_behind same_numbered turned_numbered (all_numbered old) (added_numbered old new) h)
 
 -- A test of fields that stays for those whose type is there.
-module _ (old new : FlatRows) (p q : FieldDef → Bool) (same : (d : FieldDef) → type_missing d ≡ false → type_unknown old d ≡ false → q d ≡ p d) where
+module _ (old new : FlatRows) (p q : FieldDef → Bool)
+    (same : (d : FieldDef) → type_missing d ≡ false → type_unknown old d ≡ false → q d ≡ p d) where
   still_list : (ds : List FieldDef) → list_any p ds ≡ false → list_any type_missing ds ≡ false → list_any (type_unknown old) ds ≡ false →
       list_any q ds ≡ false
   still_list [] n m u = refl

@@ -7,7 +7,8 @@ pub use Rattle.std.specs.Option.{IfSome}
 pub use Rattle.std.specs.Ordering.{int_eq, nat_cmp, is_lt}
 pub use Rattle.std.specs.declared.alloc.Global.{Global}
 pub use Rattle.std.proofs.Common.{Bool, true, false, List, [], refl, sym, ap, ap₂, ◌∙◌, append_assoc, append-nil, subst, ℕ, cond, length, map, Option, Some, None, arith, zero-add, string_bytes, String, unwrap_or, is_none, ℤ, not, slice_get, nat_eq, add-zero, bytes_eq, is_some, option_and_then, length-append, zero, suc, filter, option_map, get_or, true≢false, nat_lt, nat_le, pos, negsuc, take, drop, drop-cons, add-one, rules, ltb}
-pub use Rattle.std.proofs.lemmas.Bool.{or_parts, ltb-true, lt-ltb, ne_eqb, or_from, le-ltb, eq-eqb, eqb-true, eqb-false}
+pub use Rattle.std.proofs.Math.Bool.{or_assoc, or_comm, or-false, and-false, and-or_distrib_left}
+pub use Rattle.std.proofs.lemmas.Bool.{or_parts, ltb-true, lt-ltb, ne_eqb, or_from, le-ltb, eq-eqb, eqb-true, eqb-false, not-true, not-false}
 pub use Rattle.std.proofs.lemmas.Bool.Decides.{Decides-int_eq}
 pub use Rattle.std.proofs.lemmas.Cmp.{nat_list_cmp_total}
 pub use Rattle.std.proofs.lemmas.Iterator.Adapters.{position_from-zero}

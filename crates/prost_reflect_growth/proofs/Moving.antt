@@ -70,7 +70,8 @@ first_of n k low [] i f h e is = absurd cc
 first_of n k low (g ∷ rows) i f h e is = go (nat_eq g.number n) refl i e (λ j at. first_of n (k + 1) g.number rows j f h.1 at is)
   where
     go : (b : Bool) → nat_eq g.number n ≡ b → (i : ℕ) → slice_get (g ∷ rows) i ≡ Some f →
-        ((j : ℕ) → slice_get rows j ≡ Some f → position_from (λ (r : FieldRow). r.number == n) (k + 1) rows ≡ Some (k + 1 + smaller n rows)) →
+        ((j : ℕ) → slice_get rows j ≡ Some f →
+        position_from (λ (r : FieldRow). r.number == n) (k + 1) rows ≡ Some (k + 1 + smaller n rows)) →
         position_from (λ (r : FieldRow). r.number == n) k (g ∷ rows) ≡ Some (k + smaller n (g ∷ rows))
     go true t i e more =
         let here : g.number ≡ n = eqb-true g.number n t in

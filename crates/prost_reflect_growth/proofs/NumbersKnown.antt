@@ -1,9 +1,10 @@
 -- Numbers are found among rows.
 use Rattle.std.specs.Prelude.{◌≡◌, ◌+◌, ◌<◌, ◌&&◌, ◌||◌, ◌∷◌, ◌==◌}
-use Rattle.prost_reflect_growth.proofs.Common.{list_any, int_eq, ℕ, zero, suc, ℤ, pos, negsuc, Bool, true, false, cond, List, [], map, Option, Some, None, refl, sym, ap, ap₂, ◌∙◌, arith, slice_get, nat_le, nat_eq, ne_eqb, eq-eqb, Decides-int_eq, list_any-append, Numbered, numbered_fields, numbered_in, numbered_at, numbered_extensions, all_numbered, same_numbered, number_or_zero, FlatMessageRow, FlatRows, Links, links_of, natural_or_zero, is_place, put_in_order, in_order, belonging, extended_place, declared_fields, fields_of_message, linked_rows, linked_field, fields_at, fields_or_none, FieldRow, MessageRow}
+use Rattle.prost_reflect_growth.proofs.Common.{list_any, int_eq, ℕ, zero, suc, ℤ, pos, negsuc, Bool, true, false, cond, List, [], map, Option, Some, None, refl, sym, ap, ap₂, ◌∙◌, arith, slice_get, nat_le, nat_eq, or-false, and-false, and-or_distrib_left, ne_eqb, eq-eqb, Decides-int_eq, list_any-append, Numbered, numbered_fields, numbered_in, numbered_at, numbered_extensions, all_numbered, same_numbered, number_or_zero, FlatMessageRow, FlatRows, Links, links_of, natural_or_zero, is_place, put_in_order, in_order, belonging, extended_place, declared_fields, fields_of_message, linked_rows, linked_field, fields_at, fields_or_none, FieldRow, MessageRow}
 use Rattle.prost_reflect_tables.proofs.CatalogLinks.{fields_shown}
 use Rattle.prost_reflect_tables.proofs.Linkwell.Fields.{number_shown, linked_there}
 use Rattle.prost_reflect_growth.specs.NumbersKnown.{NumbersKnown}
+use Rattle.prost_reflect_growth.proofs.Again.{or_swap}
 use Rattle.prost_reflect_growth.proofs.Lists.{item_there}
 use Rattle.prost_reflect_growth.proofs.Stays.{FieldDef}
 
@@ -11,23 +12,14 @@ any_put : (p : FieldRow → Bool) (f : FieldRow) (fields : List FieldRow) → li
 any_put p f [] = refl
 any_put p f (g ∷ fields) = go (nat_le f.number g.number) (any_put p f fields)
   where
-    turn : (a b c : Bool) → (a || (b || c)) ≡ (b || (a || c))
-    turn true true c = refl
-    turn true false c = refl
-    turn false b c = refl
-
     go : (b : Bool) → list_any p (put_in_order f fields) ≡ (p f || list_any p fields) →
         list_any p (cond b (f ∷ g ∷ fields) (g ∷ put_in_order f fields)) ≡ (p f || (p g || list_any p fields))
     go true e = refl
-    go false e = ap (λ c. p g || c) e ∙ turn (p g) (p f) (list_any p fields)
+    go false e = ap (λ c. p g || c) e ∙ or_swap (p g) (p f) (list_any p fields)
 
 any_ordered : (p : FieldRow → Bool) (fields : List FieldRow) → list_any p (in_order fields) ≡ list_any p fields
 any_ordered p [] = refl
 any_ordered p (f ∷ fields) = any_put p f (in_order fields) ∙ ap (λ c. p f || c) (any_ordered p fields)
-
-or_false : (a : Bool) → (a || false) ≡ a
-or_false true = refl
-or_false false = refl
 
 module _ (T n : ℕ) (some : 0 < n) where
   abbrev one : Numbered
@@ -57,16 +49,8 @@ module _ (T n : ℕ) (some : 0 < n) where
 
   -- The fields of the message at a place.
   own_numbers : (i : ℕ) (ds : List FieldDef) → list_any (same_numbered one) (numbered_fields i ds) ≡ (nat_eq T i && list_any wanted ds)
-  own_numbers i [] = go (nat_eq T i)
-    where
-      go : (b : Bool) → false ≡ (b && false)
-      go true = refl
-      go false = refl
-  own_numbers i (d ∷ ds) = ap (λ c. (nat_eq T i && wanted d) || c) (own_numbers i ds) ∙ go (nat_eq T i) (wanted d) (list_any wanted ds)
-    where
-      go : (a b c : Bool) → ((a && b) || (a && c)) ≡ (a && (b || c))
-      go true b c = refl
-      go false b c = refl
+  own_numbers i [] = sym (and-false (nat_eq T i))
+  own_numbers i (d ∷ ds) = ap (λ c. (nat_eq T i && wanted d) || c) (own_numbers i ds) ∙ sym (and-or_distrib_left (nat_eq T i) (wanted d) (list_any wanted ds))
 
   later_numbers : (i : ℕ) (ms : List FlatMessageRow) → T < i → list_any (same_numbered one) (numbered_in i ms) ≡ false
   later_numbers i [] less = refl
@@ -81,7 +65,7 @@ module _ (T n : ℕ) (some : 0 < n) where
       let same : x ≡ m = cc in
       list_any-append (same_numbered one) (numbered_fields i x.fields) (numbered_in (i + 1) ms)
       ∙ (ap₂ (λ a b. a || b) (own_numbers i x.fields ∙ ap (λ b. b && list_any wanted x.fields) (eq-eqb T i (omega (arith, e)))) (later_numbers (i + 1) ms (omega (arith, e)))
-      ∙ (or_false (list_any wanted x.fields) ∙ ap (λ (y : FlatMessageRow). list_any wanted y.fields) same))
+      ∙ (or-false (list_any wanted x.fields) ∙ ap (λ (y : FlatMessageRow). list_any wanted y.fields) same))
   in_numbers i (suc k) (x ∷ ms) m e at =
       list_any-append (same_numbered one) (numbered_fields i x.fields) (numbered_in (i + 1) ms)
       ∙ ap₂ (λ a b. a || b) (own_numbers i x.fields ∙ ap (λ b. b && list_any wanted x.fields) (ne_eqb T i (λ same. absurd (omega (arith, e))))) (in_numbers (i + 1) k ms m (omega (arith, e)) at)
@@ -98,7 +82,7 @@ module _ (T n : ℕ) (some : 0 < n) where
       inner : (b : Bool) (rest : List FieldDef) →
           ((b && wanted d) || false) || list_any has (map (linked_field (links_of rows) true) rest)
           ≡ list_any has (map (linked_field (links_of rows) true) (cond b (d ∷ rest) rest))
-      inner true rest = ap (λ c. c || list_any has (map (linked_field (links_of rows) true) rest)) (or_false (wanted d) ∙ sym (linked_has (links_of rows) true d))
+      inner true rest = ap (λ c. c || list_any has (map (linked_field (links_of rows) true) rest)) (or-false (wanted d) ∙ sym (linked_has (links_of rows) true d))
       inner false rest = refl
 
       go : (p : Option ℕ) (rest : List FieldDef) →

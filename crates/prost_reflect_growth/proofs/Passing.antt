@@ -1,6 +1,6 @@
 -- Where items in order are parted by a further one.
 use Rattle.std.specs.Prelude.{◌≡◌, ◌<◌, ◌≤◌, ◌∷◌}
-use Rattle.prost_reflect_growth.proofs.Common.{IsStrictWeakOrder, IsPartitionedBy, IsPartitionPoint, ℕ, zero, suc, Bool, true, false, cond, not, List, [], length, refl, sym, ap, arith, take, drop, get_or, true≢false}
+use Rattle.prost_reflect_growth.proofs.Common.{IsStrictWeakOrder, IsPartitionedBy, IsPartitionPoint, ℕ, zero, suc, Bool, true, false, cond, not, List, [], length, refl, ap, arith, take, drop, get_or, not-true, not-false}
 use Rattle.prost_reflect_tables.proofs.Orders.{NoneBefore, Rises}
 use Rattle.prost_reflect_growth.specs.Merging.{front, back}
 
@@ -10,15 +10,11 @@ module _ {X : Type 0} (lt : X → X → Bool) (o : IsStrictWeakOrder lt) where
   none_at x (y ∷ ys) zero d h less = h.0
   none_at x (y ∷ ys) (suc j) d h less = none_at x ys j d h.1 (omega arith)
 
-  not_true : (b : Bool) → not b ≡ true → b ≡ false
-  not_true false e = refl
-  not_true true e = absurd (true≢false (sym e))
-
   -- Those that the item does not stand before come first.
   pub parted : (y : X) (xs : List X) → Rises lt xs → IsPartitionedBy (λ x. not (lt y x)) xs
   parted y [] h i j d le less e = absurd (omega arith)
   parted y (x ∷ xs) h zero zero d le less e = e
-  parted y (x ∷ xs) h zero (suc j) d le less e = ap not (o.chain y (get_or xs j d) x (not_true (lt y (get_or xs j d)) e) (none_at x xs j d h.0 (omega arith)))
+  parted y (x ∷ xs) h zero (suc j) d le less e = ap not (o.chain y (get_or xs j d) x (not-true (lt y (get_or xs j d)) e) (none_at x xs j d h.0 (omega arith)))
   parted y (x ∷ xs) h (suc i) zero d le less e = absurd (omega arith)
   parted y (x ∷ xs) h (suc i) (suc j) d le less e = parted y xs h.1 i j d (omega arith) (omega arith) e
 
@@ -37,13 +33,9 @@ module _ {X : Type 0} (lt : X → X → Bool) (o : IsStrictWeakOrder lt) where
   front_is y zero [] h point = (refl, refl)
   front_is y (suc k) [] h point = absurd (omega arith)
   front_is y zero (x ∷ xs) h point =
-      let e : lt y x ≡ true = not_false (lt y x) (point.1 0 x (omega arith) (omega arith)) in
+      let e : lt y x ≡ true = not-false (lt y x) (point.1 0 x (omega arith) (omega arith)) in
       (rw e refl, rw e refl)
-    where
-      not_false : (b : Bool) → not b ≡ false → b ≡ true
-      not_false true e = refl
-      not_false false e = absurd (true≢false e)
   front_is y (suc k) (x ∷ xs) h point =
-      let e : lt y x ≡ false = not_true (lt y x) (point.0 0 x (omega arith) (omega arith)) in
+      let e : lt y x ≡ false = not-true (lt y x) (point.0 0 x (omega arith) (omega arith)) in
       let more = front_is y k xs (omega arith) ((λ j d low less. point.0 (suc j) d (omega arith) (omega arith)), (λ j d low less. point.1 (suc j) d (omega arith) (omega arith))) in
       (rw e (ap (λ l. x ∷ l) more.0), rw e more.1)

@@ -33,7 +33,8 @@ member_moves links rest more ds i d ascends at =
 oneofs_move : (links : Links) (rest more : List FieldRow) (ds : List FieldDef) (o : ℕ) (os : List (DefinitionRow OneofDescriptorProto)) →
     ascending_from 0 (in_order (declared_fields links ds ++ rest)) ≡ true →
     oneofs_from (in_order ((declared_fields links ds ++ rest) ++ more)) ds o os
-    ≡ map (moved_oneof more (in_order (declared_fields links ds ++ rest))) (oneofs_from (in_order (declared_fields links ds ++ rest)) ds o os)
+    ≡ map (moved_oneof more (in_order (declared_fields links ds ++ rest)))
+    (oneofs_from (in_order (declared_fields links ds ++ rest)) ds o os)
 oneofs_move links rest more ds o [] ascends = refl
 oneofs_move links rest more ds o (x ∷ os) ascends =
     let all = declared_fields links ds ++ rest in
@@ -140,9 +141,11 @@ module _ (old new : FlatRows) where
 
     messages_old : (T : ℕ) (ms rest : List FlatMessageRow) → list_any (λ (x : FlatMessageRow). list_any type_missing x.fields) ms ≡ false →
         list_any (λ (x : FlatMessageRow). list_any (type_unknown old) x.fields) ms ≡ false →
-        ((i : ℕ) (x : FlatMessageRow) → slice_get ms i ≡ Some x → ascending_from 0 (linked_message (fields_of_message before old.extensions (T + i) x) x).fields ≡ true) →
+        ((i : ℕ) (x : FlatMessageRow) → slice_get ms i ≡ Some x →
+        ascending_from 0 (linked_message (fields_of_message before old.extensions (T + i) x) x).fields ≡ true) →
         messages_from after (old.extensions ++ new.extensions) T (ms ++ rest)
-        ≡ each_from (λ T x. grown_message (further old new T) x) T (messages_from before old.extensions T ms) ++ messages_from after (old.extensions ++ new.extensions) (T + length ms) rest
+        ≡ each_from (λ T x. grown_message (further old new T) x) T (messages_from before old.extensions T ms)
+        ++ messages_from after (old.extensions ++ new.extensions) (T + length ms) rest
     messages_old T [] rest xm xu ascend = rw (add-zero T) refl
     messages_old T (x ∷ ms) rest xm xu ascend =
         let xms = or_parts (list_any type_missing x.fields) (list_any (λ (x : FlatMessageRow). list_any type_missing x.fields) ms) xm in

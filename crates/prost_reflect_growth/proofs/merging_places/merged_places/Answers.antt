@@ -9,11 +9,13 @@ use Rattle.prost_reflect_growth.proofs.merging_places.merged_places.Goals as goa
 
 -- One place more.
 step : (lt : ℕ → ℕ → Bool) → IsStrictWeakOrder lt →
-    (old new left before passed further : List ℕ) (items with_passed with_place : List ℕ) (k n d : ℕ) → k < length new →
-    passed ≡ take n left → further ≡ drop n left → take n left ≡ front lt (get_or new k d) left → drop n left ≡ back lt (get_or new k d) left →
+    (old new left passed further : List ℕ) (items with_passed with_place : List ℕ) (k n d : ℕ) → k < length new →
+    passed ≡ take n left → further ≡ drop n left →
+    take n left ≡ front lt (get_or new k d) left → drop n left ≡ back lt (get_or new k d) left →
     with_passed ≡ items ++ passed → with_place ≡ with_passed ++ get_or new k d ∷ [] →
-    Rises lt left × (items ++ merged lt left (drop k new) ≡ merged lt old new) → Rises lt further × (with_place ++ merged lt further (drop (k + 1) new) ≡ merged lt old new)
-step lt o old new left before passed further items with_passed with_place k n d within p f front_is back_is wp w h =
+    Rises lt left × (items ++ merged lt left (drop k new) ≡ merged lt old new) →
+    Rises lt further × (with_place ++ merged lt further (drop (k + 1) new) ≡ merged lt old new)
+step lt o old new left passed further items with_passed with_place k n d within p f front_is back_is wp w h =
     let y = get_or new k d in
     let fs : further ≡ back lt y left = f ∙ back_is in
     let ps : passed ≡ front lt y left = p ∙ front_is in
@@ -37,5 +39,5 @@ loop-place-preserved c =
     let text = text_at (text_list c.args.texts.now) in
     let lt = text_before text in
     let order = text_order text in
-    step lt order c.args.old.now c.args.new.now c.loop-place.left.now [] _ _ c.loop-place.places.items _ _ c.loop-place.place-index c.passed-count.result _ c.loop-place-test.true
+    step lt order c.args.old.now c.args.new.now c.loop-place.left.now _ _ c.loop-place.places.items _ _ c.loop-place.place-index c.passed-count.result _ c.loop-place-test.true
     c.split_at.ensures.front c.split_at.ensures.back c.passed-count.ensures.front c.passed-count.ensures.back c.in_ok-extend_from_slice.ensures.items c.in_ok-push.ensures.items c.loop-place.invariant
