@@ -17,6 +17,7 @@ use crate::files::linked_files;
 use crate::lists::{InnerPlaces, inner_places, lists_of_enums, lists_of_messages};
 use crate::order::ordered_texts;
 use crate::services::linked_services;
+use crate::values::ordered_values;
 use prost_reflect_tables::{
     Catalog, Definition, EnumLists, FileTable, Flat, FlatService, Index, ResolvedField,
     ServiceTable, SortedPlaces, Tables, add_names, enum_names, file_names, message_names,
@@ -66,6 +67,7 @@ fn sorted_places(
         enums: ordered_texts(alloc, enum_names.as_slice())?,
         extensions: ordered_texts(alloc, extension_names.as_slice())?,
         services: ordered_texts(alloc, service_names.as_slice())?,
+        values: ordered_values(alloc, flat)?,
     })
 }
 

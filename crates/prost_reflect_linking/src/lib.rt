@@ -18,6 +18,7 @@ mod lists;
 mod meaning;
 mod order;
 mod services;
+mod values;
 
 pub use catalog::{Outline, linked_catalog, outlined};
 pub use extensions::Extended;

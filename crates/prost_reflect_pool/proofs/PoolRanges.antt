@@ -11,7 +11,7 @@ pub pool_within : (pool : LinkedPool) → CatalogWithin (files_of pool) (pool_ro
 pool_within pool = catalog_within (files_of pool) (pool_rows pool) pool.catalog pool.built pool.listed
 
 -- Something stands at a place that is there.
-slice_get_missing : {X : Type 0} (xs : List X) (k : ℕ) → k < length xs → slice_get xs k ≡ None → ⊥
+pub slice_get_missing : {X : Type 0} (xs : List X) (k : ℕ) → k < length xs → slice_get xs k ≡ None → ⊥
 slice_get_missing [] k there none = omega arith
 slice_get_missing (x ∷ xs) zero there none = cc
 slice_get_missing (x ∷ xs) (suc k) there none = slice_get_missing xs k (omega arith) none

@@ -136,6 +136,7 @@ fn empty_catalog(alloc: Global) -> Catalog
             enums: Vec::new(alloc),
             extensions: Vec::new(alloc),
             services: Vec::new(alloc),
+            values: Vec::new(alloc),
         },
     }
 }

@@ -29,16 +29,17 @@ same_lists a b p0 p1 p2 p3 p4 p5 p6 =
     ∙ (ap (λ v. make_same_lists b.messages b.enums b.extensions b.extending b.fields v a.by_json_name) p5
     ∙ (ap (λ v. make_same_lists b.messages b.enums b.extensions b.extending b.fields b.by_name v) p6))))))
 
-abbrev make_same_sorted : List ℕ → List ℕ → List ℕ → List ℕ → List ℕ → SortedRow
-make_same_sorted x0 x1 x2 x3 x4 = record { files = x0; messages = x1; enums = x2; extensions = x3; services = x4 }
+abbrev make_same_sorted : List ℕ → List ℕ → List ℕ → List ℕ → List ℕ → List (ℕ × ℕ) → SortedRow
+make_same_sorted x0 x1 x2 x3 x4 x5 = record { files = x0; messages = x1; enums = x2; extensions = x3; services = x4; values = x5 }
 
-pub same_sorted : (a b : SortedRow) → a.files ≡ b.files → a.messages ≡ b.messages → a.enums ≡ b.enums → a.extensions ≡ b.extensions → a.services ≡ b.services → a ≡ b
-same_sorted a b p0 p1 p2 p3 p4 =
-    ap (λ v. make_same_sorted v a.messages a.enums a.extensions a.services) p0
-    ∙ (ap (λ v. make_same_sorted b.files v a.enums a.extensions a.services) p1
-    ∙ (ap (λ v. make_same_sorted b.files b.messages v a.extensions a.services) p2
-    ∙ (ap (λ v. make_same_sorted b.files b.messages b.enums v a.services) p3
-    ∙ (ap (λ v. make_same_sorted b.files b.messages b.enums b.extensions v) p4))))
+pub same_sorted : (a b : SortedRow) → a.files ≡ b.files → a.messages ≡ b.messages → a.enums ≡ b.enums → a.extensions ≡ b.extensions → a.services ≡ b.services → a.values ≡ b.values → a ≡ b
+same_sorted a b p0 p1 p2 p3 p4 p5 =
+    ap (λ v. make_same_sorted v a.messages a.enums a.extensions a.services a.values) p0
+    ∙ (ap (λ v. make_same_sorted b.files v a.enums a.extensions a.services a.values) p1
+    ∙ (ap (λ v. make_same_sorted b.files b.messages v a.extensions a.services a.values) p2
+    ∙ (ap (λ v. make_same_sorted b.files b.messages b.enums v a.services a.values) p3
+    ∙ (ap (λ v. make_same_sorted b.files b.messages b.enums b.extensions v a.values) p4
+    ∙ (ap (λ v. make_same_sorted b.files b.messages b.enums b.extensions b.services v) p5)))))
 
 abbrev make_same_catalog : List FileRow → List MessageListsRow → List EnumListsRow → List ExtensionRow → List ServiceRow → SortedRow → CatalogRows
 make_same_catalog x0 x1 x2 x3 x4 x5 = record { files = x0; messages = x1; enums = x2; extensions = x3; services = x4; by_name = x5 }

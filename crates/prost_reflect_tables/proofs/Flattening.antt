@@ -98,7 +98,7 @@ file_closed old looped new f file n scope scope_is looped_is new_is =
     same_rows _ _ refl (sym (append_assoc old.enums (given (file_scope f file)).enums (enums (file_scope f file)))) (sym (append_assoc old.extensions (given (file_scope f file)).extensions (extensions (file_scope f file)))) refl
     ∙ (ap (λ (s : ScopeRow). all s (with_given old (given s))) (sym scope_is) ∙ (ap (all scope) (sym looped_is) ∙ sym new_is))
 
-behind_behind : (a b c : FlatRows) → behind (behind a b) c ≡ behind a (behind b c)
+pub behind_behind : (a b c : FlatRows) → behind (behind a b) c ≡ behind a (behind b c)
 behind_behind a b c = same_rows _ _ (append_assoc a.messages b.messages c.messages) (append_assoc a.enums b.enums c.enums) (append_assoc a.extensions b.extensions c.extensions) (append_assoc a.services b.services c.services)
 
 pub file_added : (old new : FlatRows) (fs : List FileDescriptorProto) (i : ℕ) (d : FileDescriptorProto) (n m : ℕ) → i < length fs →

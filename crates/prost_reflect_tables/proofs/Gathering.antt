@@ -1,5 +1,5 @@
 -- Places of items by what the items belong to.
-use Rattle.prost_reflect_tables.proofs.Common.{ℕ, zero, suc, Bool, true, false, cond, List, [], map, length, Option, refl, sym, ap, ◌∙◌, arith, append_assoc, append-nil, get_or, drop, drop-cons, add-one, drop_all, slice_get, is_place, empty_lists, with_item, places_from, all_places, places_of, gathered}
+use Rattle.prost_reflect_tables.proofs.Common.{ℕ, zero, suc, Bool, true, false, cond, List, [], map, length, Option, refl, sym, ap, ◌∙◌, arith, append_assoc, append-nil, get_or, drop, drop-cons, add-one, drop_all, slice_get, is_place, empty_lists, with_item, places_from, all_places, places_of, gathered, pairs_at, pairs_from}
 use Rattle.std.specs.Prelude.{unwrap_or, ◌≡◌, ◌+◌, ◌<◌, ◌≤◌, ◌∷◌, ◌++◌}
 
 -- Behind each list the places of the items that belong to its place, where the first item is at the place p and the first list at i.
@@ -66,3 +66,12 @@ places_shown row i (x ∷ xs) = ap (λ l. i ∷ l) (places_shown row (i + 1) xs)
 
 pub all_shown : {X Y : Type 0} (row : X → Y) (xs : List X) → all_places xs ≡ all_places (map row xs)
 all_shown row xs = places_shown row 0 xs
+
+-- As many items in as many lists have the same pairs.
+pub pairs_shown : {A B X Y : Type 0} (row : A → B) (items : A → List X) (shown : B → List Y) (see : X → Y) → ((a : A) → shown (row a) ≡ map see (items a)) → (i : ℕ) (ls : List A) → pairs_from i (map shown (map row ls)) ≡ pairs_from i (map items ls)
+pairs_shown row items shown see h i [] = refl
+pairs_shown {Y} row items shown see h i (l ∷ ls) =
+    let rest : List (ℕ × ℕ) = pairs_from (i + 1) (map shown (map row ls)) in
+    ap (λ (ys : List Y). pairs_at i ys ++ rest) (h l)
+    ∙ (ap (λ (places : List ℕ). map (λ (place : ℕ). (i, place)) places ++ rest) (sym (all_shown see (items l)))
+    ∙ ap (λ (pairs : List (ℕ × ℕ)). pairs_at i (items l) ++ pairs) (pairs_shown row items shown see h (i + 1) ls))

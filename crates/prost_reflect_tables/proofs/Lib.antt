@@ -12,16 +12,17 @@ mod WholeBits
 mod Escapes
 mod WorkedDefaults
 mod KindDefaults
-mod Flattening
+pub mod Flattening
 pub mod OptionBytes
 pub mod Sorting
 pub mod Grouping
 pub mod Gathering
 pub mod Orders
+pub mod TextsAt
 pub mod CatalogParts
 pub mod NamePlaces
 mod WorkedLinking
-mod Linkwell
+pub mod Linkwell
 mod WorkedChecks
 pub mod LinksWell
 pub mod CatalogLinks

@@ -92,6 +92,9 @@ pub struct SortedPlaces {
     pub extensions: Vec<usize>,
     /// The services.
     pub services: Vec<usize>,
+    /// The values of all enums, each as the place of its enum and its place among the values of that enum; of values of one full
+    /// name the first, in the order of the enums and then of their declaration, stands first.
+    pub values: Vec<(usize, usize)>,
 }
 
 /// What descriptors tell of a pool besides its rows.

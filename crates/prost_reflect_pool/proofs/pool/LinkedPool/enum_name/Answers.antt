@@ -1,5 +1,5 @@
-use Rattle.prost_reflect_pool.proofs.Common.{rules, ◌∙◌, enum_row}
-use Rattle.prost_reflect_pool.proofs.InCatalog.{enum_name, text_there, no_text}
+use Rattle.prost_reflect_pool.proofs.Common.{rules, ◌∙◌, enum_row, text_there, no_text}
+use Rattle.prost_reflect_pool.proofs.InCatalog.{enum_name}
 use Rattle.prost_reflect_pool.proofs.pool.LinkedPool.enum_name.Goals as goal
 
 pub returns-in-Some : goal.returns-in-Some

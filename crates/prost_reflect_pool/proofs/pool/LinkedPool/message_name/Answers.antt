@@ -1,5 +1,5 @@
-use Rattle.prost_reflect_pool.proofs.Common.{rules, ◌∙◌, message_row}
-use Rattle.prost_reflect_pool.proofs.InCatalog.{message_name, text_there, no_text}
+use Rattle.prost_reflect_pool.proofs.Common.{rules, ◌∙◌, message_row, text_there, no_text}
+use Rattle.prost_reflect_pool.proofs.InCatalog.{message_name}
 use Rattle.prost_reflect_pool.proofs.pool.LinkedPool.message_name.Goals as goal
 
 pub returns-in-Some : goal.returns-in-Some

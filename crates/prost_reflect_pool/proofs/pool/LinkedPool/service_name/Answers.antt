@@ -1,5 +1,5 @@
-use Rattle.prost_reflect_pool.proofs.Common.{rules, ◌∙◌, service_table_row}
-use Rattle.prost_reflect_pool.proofs.InCatalog.{service_name, text_there, no_text}
+use Rattle.prost_reflect_pool.proofs.Common.{rules, ◌∙◌, service_table_row, text_there, no_text}
+use Rattle.prost_reflect_pool.proofs.InCatalog.{service_name}
 use Rattle.prost_reflect_pool.proofs.pool.LinkedPool.service_name.Goals as goal
 
 pub returns-in-Some : goal.returns-in-Some

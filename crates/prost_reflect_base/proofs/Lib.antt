@@ -1,0 +1,6 @@
+mod Lists
+mod Scopes
+mod NamesInside
+mod Linked
+mod Numbers
+mod FullNames
