@@ -2,17 +2,17 @@
 pub use Rattle.std.specs.Cmp.{IsStrictWeakOrder}
 pub use Rattle.std.specs.Cmp.Lexicographic.{slice_cmp}
 pub use Rattle.std.specs.List.{list_any, All, position_from, AllByRecursion}
-pub use Rattle.std.specs.List.Sorted.{IsPartitionedBy, IsPartitionPoint}
+pub use Rattle.std.specs.List.Sorted.{IsPartitionedBy}
 pub use Rattle.std.specs.Option.{IfSome}
 pub use Rattle.std.specs.Ordering.{int_eq, nat_cmp, is_lt}
 pub use Rattle.std.specs.declared.alloc.Global.{Global}
-pub use Rattle.std.proofs.Common.{Bool, true, false, List, [], refl, sym, ap, ap₂, ◌∙◌, append_assoc, append-nil, subst, ℕ, cond, length, map, Option, Some, None, arith, zero-add, string_bytes, String, unwrap_or, is_none, ℤ, not, slice_get, nat_eq, add-zero, bytes_eq, is_some, option_and_then, length-append, zero, suc, filter, option_map, get_or, true≢false, nat_lt, nat_le, pos, negsuc, take, drop, drop-cons, add-one, rules, ltb}
+pub use Rattle.std.proofs.Common.{Bool, true, false, List, [], refl, sym, ap, ap₂, ◌∙◌, append_assoc, append-nil, subst, ℕ, cond, length, map, Option, Some, None, arith, zero-add, string_bytes, String, unwrap_or, is_none, ℤ, not, slice_get, nat_eq, add-zero, bytes_eq, is_some, option_and_then, length-append, zero, suc, filter, option_map, get_or, true≢false, nat_lt, nat_le, pos, negsuc, take, drop, rules, ltb}
 pub use Rattle.std.proofs.Math.Bool.{or_assoc, or_comm, or-false, and-false, and-or_distrib_left}
-pub use Rattle.std.proofs.lemmas.Bool.{or_parts, ltb-true, lt-ltb, ne_eqb, or_from, le-ltb, eq-eqb, eqb-true, eqb-false, not-true, not-false}
+pub use Rattle.std.proofs.lemmas.Bool.{or_parts, ltb-true, lt-ltb, ne_eqb, or_from, le-ltb, eq-eqb, eqb-true, eqb-false, not-true}
 pub use Rattle.std.proofs.lemmas.Bool.Decides.{Decides-int_eq}
 pub use Rattle.std.proofs.lemmas.Cmp.{nat_list_cmp_total}
 pub use Rattle.std.proofs.lemmas.Iterator.Adapters.{position_from-zero}
-pub use Rattle.std.proofs.lemmas.List.{map-append, length-map, get_or_append_left, get_or-append-add}
+pub use Rattle.std.proofs.lemmas.List.{map-append, length-map, get_or_append_left, get_or-append-add, get_or_read, drop_all}
 pub use Rattle.std.proofs.lemmas.List.Elements.{All-head, All-tail, All-nil, All-append, All-map, filter-append, All-cons}
 pub use Rattle.std.proofs.lemmas.List.Folds.{list_any-append}
 pub use Rattle.std.proofs.lemmas.List.Sorted.{ranks_by}
@@ -28,7 +28,7 @@ pub use Rattle.prost_reflect_types.specs.declared.FileDescriptorProto.{FileDescr
 pub use Rattle.prost_reflect_types.specs.declared.MethodDescriptorProto.{MethodDescriptorProto}
 pub use Rattle.prost_reflect_types.specs.declared.OneofDescriptorProto.{OneofDescriptorProto}
 pub use Rattle.prost_reflect_types.specs.declared.ServiceDescriptorProto.{ServiceDescriptorProto}
-pub use Rattle.prost_reflect_tables.specs.CatalogRows.{MethodRow, ServiceRow, CatalogRows}
+pub use Rattle.prost_reflect_tables.specs.CatalogRows.{MethodRow, ServiceRow, ExtensionRow, CatalogRows}
 pub use Rattle.prost_reflect_tables.specs.Checked.{Checked, has_fault}
 pub use Rattle.prost_reflect_tables.specs.DefaultFaults.{default_misplaced, is_float_type}
 unfoldable pub use Rattle.prost_reflect_tables.specs.DefaultFaults.{default_bad, float_default_bad}

@@ -1,13 +1,13 @@
 -- Where the rows of extensions stand.
 use Rattle.std.specs.Prelude.{◌≡◌, ◌+◌, ◌<◌, ◌++◌}
-use Rattle.prost_reflect_growth.proofs.Common.{ℕ, true, List, length, map, Option, Some, sym, ap, ap₂, ◌∙◌, arith, slice_get, unwrap_or, map-append, same_Some, map-map, FileDescriptorProto, Checked, message_names, extendee_unknown, FlatRows, behind, is_linked, each_from, extension_of, linked_extension, links_of, natural_or_zero, place_or_first, in_order, linked_rows, linked_field, place_of, fields_at, fields_or_none, MessageRow, TableRows}
+use Rattle.prost_reflect_growth.proofs.Common.{ℕ, true, List, [], length, map, Option, Some, sym, ap, ap₂, ◌∙◌, arith, slice_get, unwrap_or, map-append, same_Some, map-map, FileDescriptorProto, ExtensionRow, Checked, message_names, extendee_unknown, FlatRows, behind, is_linked, each_from, extension_of, linked_extension, links_of, natural_or_zero, place_or_first, in_order, linked_rows, linked_field, place_of, fields_at, fields_or_none, MessageRow, TableRows}
 use Rattle.prost_reflect_tables.specs.declared.error.PoolError.TheVariants as errors
 use Rattle.prost_reflect_tables.proofs.CatalogLinks.{ExtensionThere, extension_linked}
 use Rattle.prost_reflect_tables.proofs.Keeping.{fields_ascend}
 use Rattle.prost_reflect_tables.proofs.Linkwell.Fields.{number_shown}
 use Rattle.prost_reflect_tables.proofs.Linkwell.Items.{none_at}
 use Rattle.prost_reflect_tables.proofs.Linkwell.Premises.{three}
-use Rattle.prost_reflect_growth.specs.ExtensionsGrow.{grown_extension, ExtensionsGrow, ExtensionsStay}
+use Rattle.prost_reflect_growth.specs.ExtensionsGrow.{moved_extension, grown_extension, ExtensionsGrow, ExtensionsStay}
 use Rattle.prost_reflect_growth.specs.RowsGrow.{moved_place, grown_message, further, added_messages}
 use Rattle.prost_reflect_growth.proofs.Lists.{item_there, front_at, map_alike, each_there}
 use Rattle.prost_reflect_growth.proofs.Moving.{places_move}
@@ -56,10 +56,14 @@ extensions_grow files added old new checked linked =
     (map_alike after (λ d. grown (before d)) old.extensions (λ i d at. extension_grows files old new i d checked linked at) ∙ sym (map-map grown before old.extensions))
     (ap (λ (r : TableRows). map (linked_extension (links_of (behind old new)) r) new.extensions) (rows_grow files old new checked linked))
 
+-- Where nothing further extends its message, the row of an extension stands where it did.
+pub extension_unmoved : (old new : FlatRows) (rows : TableRows) (x : ExtensionRow) → further old new x.message ≡ [] →
+    grown_extension old new rows x ≡ x
+extension_unmoved old new rows x none =
+    let e : x.field + 0 ≡ x.field = omega arith in
+    ap (λ more. moved_extension more (fields_at rows x.message) x) none
+    ∙ ap (λ (k : ℕ). record { message = x.message; field = k }) e
+
 pub extensions_stay : ExtensionsStay
 extensions_stay files old new checked linked i d at none =
-    let x = linked_extension (links_of old) (linked_rows old) d in
-    let e : x.field + 0 ≡ x.field = omega arith in
-    extension_grows files old new i d checked linked at
-    ∙ (ap (λ more. record { message = x.message; field = moved_place more (fields_at (linked_rows old) x.message) x.field }) none
-    ∙ ap (λ (k : ℕ). record { message = x.message; field = k }) e)
+    extension_grows files old new i d checked linked at ∙ extension_unmoved old new (linked_rows old) (linked_extension (links_of old) (linked_rows old) d) none

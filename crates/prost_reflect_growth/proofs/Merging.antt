@@ -4,7 +4,7 @@ use Rattle.prost_reflect_growth.proofs.Common.{IsStrictWeakOrder, slice_cmp, All
 use Rattle.prost_reflect_tables.proofs.CatalogParts.{same_sorted}
 use Rattle.prost_reflect_tables.proofs.CatalogRanges.{order_all, places_below}
 use Rattle.prost_reflect_tables.proofs.Orders.{Rises, order_rises}
-use Rattle.prost_reflect_growth.specs.Merging.{merged, OrderedGrows, OrderedStays, later_value, ValuesGrow, SortedGrows}
+use Rattle.prost_reflect_growth.specs.Merging.{merged, OrderedGrows, OrderedStays, later_value, ordered_values, ValuesGrow, ValuesStay, SortedGrows}
 use Rattle.prost_reflect_growth.proofs.Already.{sorted_already}
 use Rattle.prost_reflect_growth.proofs.Lists.{places_both, places_shifted}
 use Rattle.prost_reflect_growth.proofs.Stays.{FieldDef, message_names_more, enum_names_more}
@@ -194,19 +194,29 @@ module _ (old new : FlatRows) where
       ∙ (ap (λ k. get_or (value_full_names old ++ value_full_names new) k []) count
       ∙ (get_or-append-add (value_full_names old) (value_full_names new) p.0 [] ∙ sym (unwrap_or-slice_get (value_full_names new) p.0 []))))
 
+  old_values_ordered : sorted_by (text_before (value_full_name (behind old new))) (value_places old) ≡ ordered_values old
+  old_values_ordered =
+      let all = value_full_name (behind old new) in
+      let values = λ (e : FlatEnumRow). e.values in
+      sorted_agrees (text_before (value_full_name old)) (text_before all) (λ (p : ℕ × ℕ). p.0 < length old.enums)
+      (λ a b p q. texts_agree all (value_full_name old) a b a b (front_value a p) (front_value b q))
+      (value_places old) (pairs_below (length old.enums) 0 (map values old.enums) (omega (arith, length-map old.enums values)))
+
 pub values_grow : ValuesGrow
 values_grow old new =
     let all = value_full_name (behind old new) in
     let later = later_value (length old.enums) in
-    let enums = map (λ (e : FlatEnumRow). e.values) old.enums in
     ap (sorted_by (text_before all)) (values_more old new)
     ∙ (sorted_merges (text_before all) (text_order all) (value_places old) (map later (value_places new))
-    ∙ ap₂ (merged (text_before all))
-    (sorted_agrees (text_before (value_full_name old)) (text_before all) (λ (p : ℕ × ℕ). p.0 < length old.enums)
-    (λ a b p q. texts_agree all (value_full_name old) a b a b (front_value old new a p) (front_value old new b q))
-    (value_places old) (pairs_below (length old.enums) 0 enums (omega (arith, length-map old.enums (λ (e : FlatEnumRow). e.values)))))
+    ∙ ap₂ (merged (text_before all)) (old_values_ordered old new)
     (sorted_mapped later (text_before (value_full_name new)) (text_before all)
     (λ a b. texts_agree all (value_full_name new) (later a) (later b) a b (back_value old new a) (back_value old new b)) (value_places new)))
+
+pub values_stay : ValuesStay
+values_stay old new =
+    let all = value_full_name (behind old new) in
+    sorted_already (text_before all) (text_order all) (ordered_values old)
+    (subst (Rises (text_before all)) (old_values_ordered old new) (order_rises (text_before all) (text_order all) (value_places old)))
 
 -- ALL OF THEM
 

@@ -5,7 +5,7 @@ use Rattle.prost_reflect_tables.proofs.CatalogLinks.{HasRow, order_keeps}
 use Rattle.prost_reflect_tables.proofs.DeclaredFields.{smaller_before}
 use Rattle.prost_reflect_tables.proofs.Linkwell.Numbers.{number_of}
 use Rattle.prost_reflect_tables.proofs.Sorting.{Rising, order_rises}
-use Rattle.prost_reflect_growth.specs.RowsGrow.{number_of_row, smaller, PlacesMove}
+use Rattle.prost_reflect_growth.specs.RowsGrow.{number_of_row, smaller, moved_place, PlacesMove}
 use Rattle.prost_reflect_growth.proofs.Lists.{front_at}
 
 -- HOW MANY ARE SMALLER
@@ -50,6 +50,9 @@ smaller_joined n all more =
 
 pub smaller_grown : (n : ℕ) (all more : List FieldRow) → smaller n (in_order (all ++ more)) ≡ smaller n (in_order all) + smaller n more
 smaller_grown n all more = smaller_joined n all more ∙ ap (λ k. k + smaller n more) (sym (smaller_ordered n all))
+
+pub moves_alike : (more fields : List FieldRow) (i : ℕ) → moved_place (in_order more) fields i ≡ moved_place more fields i
+moves_alike more fields i = ap (λ k. i + k) (smaller_ordered (number_of_row (slice_get fields i)) more)
 
 -- THE FIRST OF A NUMBER
 

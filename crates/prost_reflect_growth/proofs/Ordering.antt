@@ -9,6 +9,13 @@ use Rattle.prost_reflect_growth.specs.Growth.{OrderGrows}
 both_there : (k : ℕ) (xs ys : List FieldRow) → with_number number_of k (xs ++ ys) ≡ with_number number_of k xs ++ with_number number_of k ys
 both_there k xs ys = filter-append (λ (f : FieldRow). nat_eq f.number k) xs ys
 
+pub order_behind : (old new : List FieldRow) → in_order (old ++ in_order new) ≡ in_order (old ++ new)
+order_behind old new = is_in_order (old ++ new) (in_order (old ++ in_order new)) (order_rises (old ++ in_order new)) (λ k.
+    order_there k (old ++ in_order new)
+    ∙ (both_there k old (in_order new)
+    ∙ (ap (λ l. with_number number_of k old ++ l) (order_there k new)
+    ∙ sym (both_there k old new))))
+
 pub order_grows : OrderGrows
 order_grows old new = sym (is_in_order (old ++ new) (in_order (in_order old ++ new)) (order_rises (in_order old ++ new)) (λ k.
     order_there k (in_order old ++ new)

@@ -8,10 +8,10 @@ use Rattle.prost_reflect_tables.proofs.Keeping.{fields_ascend}
 use Rattle.prost_reflect_tables.proofs.Linkwell.Fields.{number_shown, linked_there}
 use Rattle.prost_reflect_tables.proofs.Linkwell.Kinds.{position_at, message_name}
 use Rattle.prost_reflect_tables.proofs.Linkwell.Premises.{three}
-use Rattle.prost_reflect_growth.specs.RowsGrow.{number_of_row, smaller, moved_place, moved_oneof, grown_message, further, RowsGrow}
+use Rattle.prost_reflect_growth.specs.RowsGrow.{number_of_row, smaller, moved_place, moved_oneof, grown_message, further, RowsGrow, FurtherOrdered}
 use Rattle.prost_reflect_growth.proofs.Lists.{front_at, mapped, map_alike, filter_at}
-use Rattle.prost_reflect_growth.proofs.Moving.{smaller_grown}
-use Rattle.prost_reflect_growth.proofs.Ordering.{order_grows}
+use Rattle.prost_reflect_growth.proofs.Moving.{smaller_grown, moves_alike}
+use Rattle.prost_reflect_growth.proofs.Ordering.{order_grows, order_behind}
 use Rattle.prost_reflect_growth.proofs.Stays.{FieldDef, extendee_stays, field_stays}
 
 -- MEMBERS OF ONEOFS
@@ -56,6 +56,13 @@ message_grows links rest more m ascends =
     let all = declared_fields links m.fields ++ rest in
     ap₂ (λ (fields : List FieldRow) (oneofs : List OneofRow). record (linked_message all m) { fields = fields; oneofs = oneofs })
     (order_grows all more) (oneofs_move links rest more m.fields 0 m.oneofs ascends)
+
+pub further_ordered : FurtherOrdered
+further_ordered more m =
+    let places : (o : OneofRow) → moved_oneof (in_order more) m.fields o ≡ moved_oneof more m.fields o = λ o.
+    ap (λ (l : List ℕ). record o { fields = l }) (map_alike (moved_place (in_order more) m.fields) (moved_place more m.fields) o.fields (λ i p at. moves_alike more m.fields p)) in
+    ap₂ (λ (fields : List FieldRow) (oneofs : List OneofRow). record m { fields = fields; oneofs = oneofs })
+    (order_behind m.fields more) (map_alike (moved_oneof (in_order more) m.fields) (moved_oneof more m.fields) m.oneofs (λ i o at. places o))
 
 -- WHAT STAYS OF FIELDS AND EXTENSIONS
 

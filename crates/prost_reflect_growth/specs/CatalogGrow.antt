@@ -46,7 +46,8 @@ ServicesGrow =
 
 -- The places of added extensions of the message at a place.
 abbrev pub further_places : (old new : FlatRows) → ℕ → List ℕ
-further_places old new T = places_from (λ d. is_place T (extended_place (links_of (behind old new)) d)) (length old.extensions) new.extensions
+further_places old new T =
+    places_from (λ d. is_place T (extended_place (links_of (behind old new)) d)) (length old.extensions) new.extensions
 
 -- An old message encloses what it did, and is extended by the added extensions, too; what is looked up in it goes by its row.
 abbrev pub grown_lists : (old new : FlatRows) → ℕ → MessageRow → MessageListsRow → MessageListsRow

@@ -3,7 +3,7 @@ use Rattle.std.specs.Prelude.{◌≡◌, ℕ, true, List, [], ◌++◌, map, sli
 use Rattle.prost_reflect_types.specs.declared.FileDescriptorProto.{FileDescriptorProto}
 use Rattle.prost_reflect_types.specs.declared.FieldDescriptorProto.{FieldDescriptorProto}
 use Rattle.prost_reflect_tables.specs.CatalogRows.{ExtensionRow}
-use Rattle.prost_reflect_tables.specs.Rows.{TableRows}
+use Rattle.prost_reflect_tables.specs.Rows.{FieldRow, TableRows}
 use Rattle.prost_reflect_tables.specs.Places.{fields_at}
 use Rattle.prost_reflect_tables.specs.Flat.{DefinitionRow, FlatRows, behind}
 use Rattle.prost_reflect_tables.specs.Faults.{message_names}
@@ -13,12 +13,13 @@ use Rattle.prost_reflect_tables.specs.LinkedCatalog.{linked_extension, linked_ca
 use Rattle.prost_reflect_tables.specs.Linking.{links_of, linked_rows, place_or_first}
 use Rattle.prost_reflect_growth.specs.RowsGrow.{moved_place, further, grown_rows}
 
+-- Where the row of an extension stands once further rows are put among the fields of its message.
+abbrev pub moved_extension : (more fields : List FieldRow) → ExtensionRow → ExtensionRow
+moved_extension more fields x = record { message = x.message; field = moved_place more fields x.field }
+
 -- An old extension extends what it did, and its row stands behind those of added extensions that have smaller numbers.
 abbrev pub grown_extension : (old new : FlatRows) → TableRows → ExtensionRow → ExtensionRow
-grown_extension old new rows x = record {
-  message = x.message;
-  field = moved_place (further old new x.message) (fields_at rows x.message) x.field;
-}
+grown_extension old new rows x = moved_extension (further old new x.message) (fields_at rows x.message) x
 
 -- Old extensions in front, and behind them the added ones, whose rows stand among the grown rows.
 abbrev pub ExtensionsGrow : Type 0

@@ -22,7 +22,8 @@ abbrev pub grown_catalog : (files added : List FileDescriptorProto) → (old new
 grown_catalog files added old new rows catalog = let links = links_of (behind old new) in record {
   files = catalog.files ++ each_from (added_file (file_names (files ++ added)) old new) (length files) added;
   messages =
-      grown_lists_from old new 0 rows.messages catalog.messages ++ each_from (added_lists old new) (length old.messages) (added_messages old new);
+      grown_lists_from old new 0 rows.messages catalog.messages
+      ++ each_from (added_lists old new) (length old.messages) (added_messages old new);
   enums = catalog.enums ++ map enum_lists new.enums;
   extensions =
       map (grown_extension old new rows) catalog.extensions ++ map (linked_extension links (grown_rows old new rows)) new.extensions;
@@ -42,4 +43,5 @@ abbrev pub GrownIsCatalog : Type 0
 GrownIsCatalog =
     (files added : List FileDescriptorProto) (rows : TableRows) (catalog grown : Catalog) → AreTablesOf files rows → is_linked rows ≡ true →
     IsCatalogOf files catalog →
-    catalog_row grown ≡ grown_catalog files added (flattened files) (added_rows files added) rows (catalog_row catalog) → IsCatalogOf (files ++ added) grown
+    catalog_row grown ≡ grown_catalog files added (flattened files) (added_rows files added) rows (catalog_row catalog) →
+    IsCatalogOf (files ++ added) grown

@@ -1,5 +1,9 @@
 -- Places in the order of texts, where texts are added.
-use Rattle.std.specs.Prelude.{◌≡◌, ℕ, ◌+◌, Bool, if◌then◌else◌, List, [], ◌∷◌, ◌++◌, length, map}
+use Rattle.std.specs.Prelude.{◌≡◌, ℕ, ◌+◌, Bool, if◌then◌else◌, List, [], ◌∷◌, ◌++◌, length, map, take, drop}
+use Rattle.std.specs.Cmp.{IsStrictWeakOrder}
+use Rattle.std.specs.Fn.{FnReturnsAtPair}
+use denote.Ref.{Bor}
+use denote.Param.Members.{Shared}
 use Rattle.prost_reflect_types.specs.declared.FileDescriptorProto.{FileDescriptorProto}
 use Rattle.prost_reflect_tables.specs.CatalogRows.{SortedRow}
 use Rattle.prost_reflect_tables.specs.Flat.{FlatRows, behind}
@@ -21,6 +25,21 @@ back before y (x ∷ xs) = if before y x then x ∷ xs else back before y xs
 abbrev pub merged : {X : Type 0} → (before : X → X → Bool) → List X → List X → List X
 merged before xs [] = xs
 merged before xs (y ∷ ys) = front before y xs ++ y ∷ merged before (back before y xs) ys
+
+-- The code answers by this order.
+abbrev pub AnswersBy : {F T : Type 0} → Shared F (Bor T × (Bor T × Unit {0})) Bool → F → (T → T → Bool) → Type 0
+AnswersBy {F} {T} g code lt = (x y : T) (r : Bool) → FnReturnsAtPair g code x y r → r ≡ lt x y
+
+-- So many of the items in its order stand in front of a further one.
+abbrev pub ArePassed : {F T : Type 0} → Shared F (Bor T × (Bor T × Unit {0})) Bool → F → List T → T → ℕ → Type 0
+ArePassed {F} {T} g code xs y n =
+    (lt : T → T → Bool) → AnswersBy g code lt → IsStrictWeakOrder lt → sorted_by lt xs ≡ xs →
+    (take n xs ≡ front lt y xs) × (drop n xs ≡ back lt y xs)
+
+-- The items are those in its order, merged with further ones.
+abbrev pub AreMerged : {F T : Type 0} → Shared F (Bor T × (Bor T × Unit {0})) Bool → F → (old new items : List T) → Type 0
+AreMerged {F} {T} g code old new items =
+    (lt : T → T → Bool) → AnswersBy g code lt → IsStrictWeakOrder lt → sorted_by lt old ≡ old → items ≡ merged lt old new
 
 -- ONE SORT OF DEFINITION
 
@@ -50,6 +69,10 @@ grown_values old new places =
 
 abbrev pub ValuesGrow : Type 0
 ValuesGrow = (old new : FlatRows) → ordered_values (behind old new) ≡ grown_values old new (ordered_values old)
+
+-- Those of old enums are in order among all values, too.
+abbrev pub ValuesStay : Type 0
+ValuesStay = (old new : FlatRows) → sorted_by (text_before (value_full_name (behind old new))) (ordered_values old) ≡ ordered_values old
 
 -- ALL OF THEM
 

@@ -39,6 +39,10 @@ grown_message more m = record {
   oneofs = map (moved_oneof more m.fields) m.oneofs;
 }
 
+-- Further rows may be in order before.
+abbrev pub FurtherOrdered : Type 0
+FurtherOrdered = (more : List FieldRow) (m : MessageRow) → grown_message (in_order more) m ≡ grown_message more m
+
 -- The rows of the added extensions of the message at a place.
 abbrev pub further : (old new : FlatRows) → ℕ → List FieldRow
 further old new T =

@@ -2,12 +2,12 @@
 
 ghost use Rattle.prost_reflect_growth.specs.Growth.{FlatGrows, PlacesGrow, OrderGrows};
 ghost use Rattle.prost_reflect_growth.specs.Stays.{FieldStays, ExtendeeStays};
-ghost use Rattle.prost_reflect_growth.specs.RowsGrow.{PlacesMove, RowsGrow};
+ghost use Rattle.prost_reflect_growth.specs.RowsGrow.{PlacesMove, FurtherOrdered, RowsGrow};
 ghost use Rattle.prost_reflect_growth.specs.Untouched.{UntouchedStays};
 ghost use Rattle.prost_reflect_growth.specs.ChecksGrow.{ChecksGrow};
 ghost use Rattle.prost_reflect_growth.specs.TablesGrow.{TablesGrow, AddedRefuse};
 ghost use Rattle.prost_reflect_growth.specs.NumbersKnown.{NumbersKnown};
-ghost use Rattle.prost_reflect_growth.specs.Merging.{OrderedGrows, OrderedStays, ValuesGrow, SortedGrows};
+ghost use Rattle.prost_reflect_growth.specs.Merging.{OrderedGrows, OrderedStays, ValuesGrow, ValuesStay, SortedGrows};
 ghost use Rattle.prost_reflect_growth.specs.CatalogGrow.{FilesGrow, ServicesGrow, EnumsGrow, ListsGrow, ListsStay, ListsAdded, MessagesGrow};
 ghost use Rattle.prost_reflect_growth.specs.ExtensionsGrow.{ExtensionsGrow, ExtensionsStay};
 ghost use Rattle.prost_reflect_growth.specs.GrownCatalog.{CatalogGrows, GrownIsCatalog};
@@ -40,6 +40,11 @@ pub fn extendee_stays()
 /// Once further rows are put among fields in order, a field stands behind those of them that have smaller numbers.
 pub fn places_move()
     ensures { PlacesMove }
+{}
+
+/// It is all one whether further rows are in order before they are put among the fields of a message.
+pub fn further_ordered()
+    ensures { FurtherOrdered }
 {}
 
 /// Old rows stay, but for the rows of added extensions that are put among them; added rows need the added lists alone.
@@ -85,6 +90,11 @@ pub fn values_grow()
 /// Places in the order of old texts are in order among all texts, too.
 pub fn ordered_stays()
     ensures { OrderedStays }
+{}
+
+/// So are the places of the values of old enums among all values.
+pub fn values_stay()
+    ensures { ValuesStay }
 {}
 
 /// The places of all definitions by their names, from those of the old ones.

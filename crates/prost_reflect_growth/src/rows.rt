@@ -1,13 +1,15 @@
-//! The row of an old message with the rows of added extensions.
+//! The row of an old message with the rows of added extensions, and where the rows of its extensions move.
 
 ghost use Rattle.std.specs.Prelude.{◌≡◌, ◌++◌, ◌<◌, length, IfOk, OnOk, map, slice_get};
 ghost use Rattle.std.specs.List.Sorted.{IsNonDecreasingBy};
 ghost use Rattle.prost_reflect_tables.specs.declared.tables.FieldTable.{FieldTable};
 ghost use Rattle.prost_reflect_tables.specs.Rows.{identity_row, field_row, oneof_row, message_row};
+ghost use Rattle.prost_reflect_tables.specs.CatalogRows.{extension_table_row};
 ghost use Rattle.prost_reflect_tables.specs.Linking.{in_order};
 ghost use Rattle.prost_reflect_growth.specs.RowsGrow.{smaller, number_of_row, moved_place, moved_oneof, grown_message};
+ghost use Rattle.prost_reflect_growth.specs.ExtensionsGrow.{moved_extension};
 
-use prost_reflect_tables::{FieldTable, Identity, MessageTable, OneofTable};
+use prost_reflect_tables::{ExtensionTable, FieldTable, Identity, MessageTable, OneofTable};
 use std::alloc::{AllocError, Global};
 
 fn copied_identity(id: &Identity) -> Result<Identity, AllocError>
@@ -147,5 +149,25 @@ pub fn grown_message(
         is_map_entry: message.is_map_entry,
         fields,
         oneofs: moved_oneofs(alloc, former, more, message.oneofs.as_slice())?,
+    })
+}
+
+/// Where the row of an extension stands once further rows, which are in ascending order of numbers, are put among the fields of
+/// its message.
+///
+/// # Errors
+///
+/// `AllocError` if no `usize` counts so far.
+pub fn moved_extension(
+    extension: &ExtensionTable,
+    fields: &[FieldTable],
+    more: &[FieldTable],
+) -> Result<ExtensionTable, AllocError>
+    requires { IsNonDecreasingBy (λ (f : FieldTable). f.number) more.now }
+    ensures { IfOk result (λ x. extension_table_row x ≡ moved_extension (map field_row more.now) (map field_row fields.now) (extension_table_row extension.now)) }
+{
+    Ok(ExtensionTable {
+        message: extension.message,
+        field: moved_place(fields, more, extension.field)?,
     })
 }
