@@ -32,8 +32,9 @@ pub fn check_files(
     ensures ok { OnOk result (Checked (files_of pool.now ++ file_list files.now) (flattened (files_of pool.now ++ file_list files.now))) }
     ensures stands { IfErr result (λ e. e ≢ pool_errors.OutOfMemory → Stands e (files_of pool.now ++ file_list files.now) (flattened (files_of pool.now ++ file_list files.now))) }
 {
-    let flat = flattened(alloc, pool.file_count(), pool.message_count(), files)?;
-    check_added(alloc, Base::of(pool), files, &flat)?;
+    let base = Base::of(pool);
+    let flat = flattened(alloc, base.file_count(), base.message_count(), files)?;
+    check_added(alloc, base, files, &flat)?;
     Ok(())
 }
 

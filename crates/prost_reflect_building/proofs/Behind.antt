@@ -1,0 +1,21 @@
+-- Files behind those of a pool: what is found of the added definitions is found of all.
+use Rattle.std.specs.Prelude.{◌≡◌, ◌++◌}
+use Rattle.prost_reflect_building.proofs.Common.{List, length, true, false, ap, sym, ◌∙◌, FileDescriptorProto, PoolError, Checked, has_fault, FlatRows, behind, files_from, flattened}
+use Rattle.prost_reflect_tables.specs.Checked.{Stands}
+use Rattle.prost_reflect_growth.specs.ChecksGrow.{added_fault}
+use Rattle.prost_reflect_growth.proofs.ChecksGrow.{checks_grow}
+use Rattle.prost_reflect_growth.proofs.Flats.{flat_grows}
+
+-- The flat lists of added files, as they stand behind those of the others.
+abbrev pub IsBehind : (files added : List FileDescriptorProto) → FlatRows → Type 0
+IsBehind files added new = new ≡ files_from added (length files) (length (flattened files).messages)
+
+module _ (files added : List FileDescriptorProto) (new : FlatRows) (is : IsBehind files added new) (checked : Checked files (flattened files)) where
+  fault_is : (e : PoolError) → has_fault e (files ++ added) (flattened (files ++ added)) ≡ added_fault e files added (flattened files) new
+  fault_is e = ap (has_fault e (files ++ added)) (flat_grows files added ∙ ap (behind (flattened files)) (sym is)) ∙ checks_grow files added (flattened files) new checked e
+
+  pub all_checked : ((e : PoolError) → added_fault e files added (flattened files) new ≡ false) → Checked (files ++ added) (flattened (files ++ added))
+  all_checked none e = fault_is e ∙ none e
+
+  pub all_refused : (e : PoolError) → added_fault e files added (flattened files) new ≡ true → Stands e (files ++ added) (flattened (files ++ added))
+  all_refused e stands = fault_is e ∙ stands
