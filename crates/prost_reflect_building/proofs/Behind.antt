@@ -1,6 +1,8 @@
 -- Files behind those of a pool: what is found of the added definitions is found of all.
-use Rattle.std.specs.Prelude.{◌≡◌, ◌++◌}
-use Rattle.prost_reflect_building.proofs.Common.{List, length, true, false, ap, sym, ◌∙◌, FileDescriptorProto, PoolError, Checked, has_fault, FlatRows, behind, files_from, flattened}
+use Rattle.std.specs.Prelude.{◌≡◌, ◌∷◌, ◌++◌}
+use Rattle.std.proofs.Common.{zero, suc}
+use Rattle.std.specs.declared.rc.Rc.{Rc}
+use Rattle.prost_reflect_building.proofs.Common.{ℕ, List, [], map, drop, length, true, false, refl, ap, sym, ◌∙◌, FileDescriptorProto, PoolError, Checked, has_fault, FlatRows, behind, files_from, flattened, shared_files, Global}
 use Rattle.prost_reflect_tables.specs.Checked.{Stands}
 use Rattle.prost_reflect_growth.specs.ChecksGrow.{added_fault}
 use Rattle.prost_reflect_growth.proofs.ChecksGrow.{checks_grow}
@@ -19,3 +21,21 @@ module _ (files added : List FileDescriptorProto) (new : FlatRows) (is : IsBehin
 
   pub all_refused : (e : PoolError) → added_fault e files added (flattened files) new ≡ true → Stands e (files ++ added) (flattened (files ++ added))
   all_refused e stands = fault_is e ∙ stands
+
+-- PARTS OF A LIST
+
+dropped : {X Y : Type 0} (f : X → Y) (n : ℕ) (xs : List X) → map f (drop n xs) ≡ drop n (map f xs)
+dropped f zero xs = refl
+dropped f (suc n) [] = refl
+dropped f (suc n) (x ∷ xs) = dropped f n xs
+
+behind_is : {Y : Type 0} (ys more : List Y) → drop (length ys) (ys ++ more) ≡ more
+behind_is [] more = refl
+behind_is (y ∷ ys) more = behind_is ys more
+
+-- The files behind those of the pool are the others.
+pub others : (all : List (Rc FileDescriptorProto Global)) (files more : List FileDescriptorProto) (n : ℕ) → shared_files all ≡ files ++ more → n ≡ length files → files ++ shared_files (drop n all) ≡ shared_files all
+others all files more n whole size =
+    ap (λ (fs : List FileDescriptorProto). files ++ fs)
+    (dropped (λ (f : Rc FileDescriptorProto Global). f.value) n all ∙ (ap (drop n) whole ∙ (ap (λ (k : ℕ). drop k (files ++ more)) size ∙ behind_is files more)))
+    ∙ sym whole
