@@ -4,6 +4,9 @@ use Rattle.std.proofs.Common.{zero, suc}
 use Rattle.std.specs.declared.rc.Rc.{Rc}
 use Rattle.prost_reflect_building.proofs.Common.{ℕ, List, [], map, drop, length, true, false, refl, ap, sym, ◌∙◌, FileDescriptorProto, PoolError, Checked, has_fault, FlatRows, behind, files_from, flattened, shared_files, Global}
 use Rattle.prost_reflect_tables.specs.Checked.{Stands}
+use Rattle.prost_reflect_base.specs.Below.{files_below}
+use Rattle.prost_reflect_base.specs.declared.base.Base.{Base}
+use Rattle.prost_reflect_resolving.specs.Indexed.{all_rows}
 use Rattle.prost_reflect_growth.specs.ChecksGrow.{added_fault}
 use Rattle.prost_reflect_growth.proofs.ChecksGrow.{checks_grow}
 use Rattle.prost_reflect_growth.proofs.Flats.{flat_grows}
@@ -39,3 +42,9 @@ others all files more n whole size =
     ap (λ (fs : List FileDescriptorProto). files ++ fs)
     (dropped (λ (f : Rc FileDescriptorProto Global). f.value) n all ∙ (ap (drop n) whole ∙ (ap (λ (k : ℕ). drop k (files ++ more)) size ∙ behind_is files more)))
     ∙ sym whole
+
+-- NO FILES IN FRONT
+
+-- The definitions behind those of no file are all.
+pub all_behind_none : (base : Base) (new : FlatRows) → files_below base ≡ [] → all_rows base new ≡ new
+all_behind_none base new none = ap (λ (fs : List FileDescriptorProto). behind (flattened fs) new) none
