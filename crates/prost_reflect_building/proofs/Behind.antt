@@ -36,12 +36,13 @@ behind_is : {Y : Type 0} (ys more : List Y) → drop (length ys) (ys ++ more) �
 behind_is [] more = refl
 behind_is (y ∷ ys) more = behind_is ys more
 
--- The files behind those of the pool are the others.
-pub others : (all : List (Rc FileDescriptorProto Global)) (files more : List FileDescriptorProto) (n : ℕ) → shared_files all ≡ files ++ more → n ≡ length files → files ++ shared_files (drop n all) ≡ shared_files all
-others all files more n whole size =
-    ap (λ (fs : List FileDescriptorProto). files ++ fs)
-    (dropped (λ (f : Rc FileDescriptorProto Global). f.value) n all ∙ (ap (drop n) whole ∙ (ap (λ (k : ℕ). drop k (files ++ more)) size ∙ behind_is files more)))
-    ∙ sym whole
+-- Files behind others are what is left without those.
+pub rest_is : (files more : List FileDescriptorProto) → files ++ drop (length files) (files ++ more) ≡ files ++ more
+rest_is files more = ap (λ (fs : List FileDescriptorProto). files ++ fs) (behind_is files more)
+
+pub others : (all : List (Rc FileDescriptorProto Global)) (files : List FileDescriptorProto) (n : ℕ) → files ++ drop (length files) (shared_files all) ≡ shared_files all → n ≡ length files → files ++ shared_files (drop n all) ≡ shared_files all
+others all files n whole size =
+    ap (λ (fs : List FileDescriptorProto). files ++ fs) (dropped (λ (f : Rc FileDescriptorProto Global). f.value) n all ∙ ap (λ (k : ℕ). drop k (shared_files all)) size) ∙ whole
 
 -- NO FILES IN FRONT
 

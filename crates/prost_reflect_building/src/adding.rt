@@ -1,6 +1,6 @@
 //! Adding files to pools.
 
-ghost use Rattle.std.specs.Prelude.{◌≡◌, ◌≢◌, ◌++◌, ◌∷◌, [], List, not, IsTrue, IfOk, IfErr, OnOk, OnErr};
+ghost use Rattle.std.specs.Prelude.{◌≡◌, ◌≢◌, ◌++◌, ◌∷◌, [], drop, length, List, not, IsTrue, IfOk, IfErr, OnOk, OnErr};
 ghost use Rattle.prost_reflect_types.specs.DescriptorViews.{shared_files};
 ghost use Rattle.prost_reflect_types.specs.declared.FileDescriptorProto.{FileDescriptorProto};
 ghost use Rattle.prost_reflect_tables.specs.Adding.{is_there, added, AreNamesOf};
@@ -134,8 +134,7 @@ fn check_behind(
     pool: &LinkedPool,
     files: &[Rc<FileDescriptorProto>],
 ) -> Result<(), PoolError>
-    ghost more: { List FileDescriptorProto }
-    requires { shared_files files.now ≡ files_of pool.now ++ more }
+    requires { files_of pool.now ++ drop (length (files_of pool.now)) (shared_files files.now) ≡ shared_files files.now }
     ensures ok { OnOk result (Checked (shared_files files.now) (flattened (shared_files files.now))) }
     ensures stands { IfErr result (λ e. e ≢ pool_errors.OutOfMemory → Stands e (shared_files files.now) (flattened (shared_files files.now))) }
 {
