@@ -7,3 +7,7 @@ mod ClearedLevels
 mod ClearedPaths
 mod NothingLeft
 mod RefusedRedaction
+mod NameTexts
+mod NamedRows
+mod PathSteps
+mod NamedRedaction

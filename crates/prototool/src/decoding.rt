@@ -1,5 +1,8 @@
 //! Where bytes stand at fault that a message type does not accept, by the names of fields.
 
+ghost use Rattle.std.specs.Prelude.{◌≡◌, false};
+ghost use Rattle.prototool.specs.Refusals.{is_path};
+
 use crate::refusal::Refusal;
 use crate::types::{kind_at, push_known_name};
 use prost_reflect::{DecodeError, DecodeFault, Kind, MessageDescriptor};
@@ -14,7 +17,9 @@ pub fn with_place(
     descriptor: MessageDescriptor,
     bytes: &[u8],
     refusal: Refusal,
-) -> Refusal {
+) -> Refusal
+    ensures { is_path result ≡ is_path refusal }
+{
     match refusal {
         Refusal::Decode(error) => refused(alloc, descriptor, bytes, error),
         other => other,
@@ -27,7 +32,9 @@ fn refused(
     descriptor: MessageDescriptor,
     bytes: &[u8],
     error: DecodeError,
-) -> Refusal {
+) -> Refusal
+    ensures { is_path result ≡ false }
+{
     let Some(fault) = descriptor.decode_fault(bytes) else {
         return Refusal::Decode(error);
     };

@@ -1,5 +1,11 @@
 //! What a command reads: descriptor sets, and the bytes of messages.
 
+ghost use Rattle.std.specs.Prelude.{◌≡◌, IfErr, IfOk, Some, false};
+ghost use Rattle.prost_reflect_tables.specs.Places.{message_place};
+ghost use Rattle.prost_reflect_pool.specs.Pools.{pool_rows};
+ghost use Rattle.prototool.specs.Naming.{GivesBytes};
+ghost use Rattle.prototool.specs.Refusals.{is_path};
+
 use crate::command::Source;
 use crate::refusal::Refusal;
 use prost_reflect::{DescriptorPool, MessageDescriptor, builtin_pool};
@@ -13,7 +19,9 @@ use std::rt::Files;
 /// # Errors
 ///
 /// `File` if the file is not read, `Set` or `Pool` of what it holds, or `Memory`.
-pub fn pool_of<R: Files + AllocGlobal>(rt: &R, set: &str) -> Result<DescriptorPool, Refusal> {
+pub fn pool_of<R: Files + AllocGlobal>(rt: &R, set: &str) -> Result<DescriptorPool, Refusal>
+    ensures { IfErr result (λ refusal. is_path refusal ≡ false) }
+{
     let alloc = rt.alloc();
     if set == "-" {
         return Ok(builtin_pool(alloc)?);
@@ -27,11 +35,15 @@ pub fn pool_of<R: Files + AllocGlobal>(rt: &R, set: &str) -> Result<DescriptorPo
 /// # Errors
 ///
 /// `Name` if no message type has the name, or `Memory`.
-pub fn message_type(pool: &DescriptorPool, name: &str) -> Result<MessageDescriptor, Refusal> {
-    match pool.get_message_by_name(name)? {
-        Some(descriptor) => Ok(descriptor),
-        None => Err(Refusal::Name),
-    }
+pub fn message_type(pool: &DescriptorPool, name: &str) -> Result<MessageDescriptor, Refusal>
+    ensures named { IfOk result (λ message_type. message_place (pool_rows message_type.pool.inner.value) name.now ≡ Some message_type.index) }
+    ensures pool { IfOk result (λ message_type. message_type.pool.inner.value ≡ pool.now.inner.value) }
+    ensures refused { IfErr result (λ refusal. is_path refusal ≡ false) }
+{
+    let Some(descriptor) = pool.get_message_by_name(name)? else {
+        return Err(Refusal::Name);
+    };
+    Ok(descriptor)
 }
 
 /// The bytes that the source holds.
@@ -42,7 +54,10 @@ pub fn message_type(pool: &DescriptorPool, name: &str) -> Result<MessageDescript
 pub fn bytes_of<R: Files + Input + AllocGlobal>(
     rt: &R,
     source: Source<'_>,
-) -> Result<Vec<u8>, Refusal> {
+) -> Result<Vec<u8>, Refusal>
+    ensures given { IfOk result (λ bytes. GivesBytes source.entry bytes.items) }
+    ensures refused { IfErr result (λ refusal. is_path refusal ≡ false) }
+{
     match source {
         Source::StandardInput => bytes_of_input(rt),
         Source::File(path) => bytes_of_file(rt, path.as_str()),
@@ -51,7 +66,9 @@ pub fn bytes_of<R: Files + Input + AllocGlobal>(
 }
 
 /// All bytes of the standard input.
-fn bytes_of_input<R: Input + AllocGlobal>(rt: &R) -> Result<Vec<u8>, Refusal> {
+fn bytes_of_input<R: Input + AllocGlobal>(rt: &R) -> Result<Vec<u8>, Refusal>
+    ensures { IfErr result (λ refusal. is_path refusal ≡ false) }
+{
     let mut bytes = Vec::new(rt.alloc());
     match rt.reader().read_to_end(&mut bytes) {
         Ok(_) => Ok(bytes),
@@ -60,7 +77,9 @@ fn bytes_of_input<R: Input + AllocGlobal>(rt: &R) -> Result<Vec<u8>, Refusal> {
 }
 
 /// All bytes of the file of the path.
-fn bytes_of_file<R: Files + AllocGlobal>(rt: &R, path: &str) -> Result<Vec<u8>, Refusal> {
+fn bytes_of_file<R: Files + AllocGlobal>(rt: &R, path: &str) -> Result<Vec<u8>, Refusal>
+    ensures { IfErr result (λ refusal. is_path refusal ≡ false) }
+{
     match fs::read(rt, path) {
         Ok(bytes) => Ok(bytes),
         Err(error) => Err(Refusal::of_file(rt.alloc(), path, &error)),

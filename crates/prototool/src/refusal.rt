@@ -1,7 +1,7 @@
 //! Why a command is refused, and the lines that say so.
 
-ghost use Rattle.std.specs.Prelude.{◌≡◌};
-ghost use Rattle.prototool.specs.Refusals.{decode_refusal, encode_refusal};
+ghost use Rattle.std.specs.Prelude.{◌≡◌, false};
+ghost use Rattle.prototool.specs.Refusals.{RefusesPath, decode_refusal, encode_refusal, is_path};
 ghost use Rattle.prototool.specs.declared.refusal.Refusal.TheVariants as refusals;
 
 use hex::FromHexError;
@@ -39,7 +39,9 @@ pub enum Refusal {
 
 impl Refusal {
     /// The refusal of a file that is not read.
-    pub fn of_file(alloc: Global, path: &str, error: &io::Error) -> Refusal {
+    pub fn of_file(alloc: Global, path: &str, error: &io::Error) -> Refusal
+        ensures { is_path result ≡ false }
+    {
         if error.kind() == ErrorKind::OutOfMemory {
             return Refusal::Memory;
         }
@@ -50,7 +52,9 @@ impl Refusal {
     }
 
     /// The refusal of the standard input, if it is not read.
-    pub fn of_input(error: &io::Error) -> Refusal {
+    pub fn of_input(error: &io::Error) -> Refusal
+        ensures { is_path result ≡ false }
+    {
         if error.kind() == ErrorKind::OutOfMemory {
             Refusal::Memory
         } else {
@@ -59,7 +63,9 @@ impl Refusal {
     }
 
     /// The refusal of a path of names that leads to no field.
-    pub fn of_path(alloc: Global, path: &str) -> Refusal {
+    pub fn of_path(alloc: Global, path: &str) -> Refusal
+        ensures { RefusesPath path.now result }
+    {
         match String::from_str(alloc, path) {
             Ok(path) => Refusal::Path(path),
             Err(_) => Refusal::Memory,
@@ -94,12 +100,16 @@ impl From<AllocError> for Refusal {
 }
 
 impl<T: Drop> From<AllocFailed<T>> for Refusal {
+    ghost from_gives = { λ _ refusal. refusal ≡ refusals.Memory };
+
     fn from(_failed: AllocFailed<T>) -> Refusal {
         Refusal::Memory
     }
 }
 
 impl From<FromHexError> for Refusal {
+    ghost from_gives = { λ _ refusal. is_path refusal ≡ false };
+
     fn from(error: FromHexError) -> Refusal {
         match error {
             FromHexError::OutOfMemory => Refusal::Memory,
@@ -109,6 +119,8 @@ impl From<FromHexError> for Refusal {
 }
 
 impl From<PoolError> for Refusal {
+    ghost from_gives = { λ _ refusal. is_path refusal ≡ false };
+
     fn from(error: PoolError) -> Refusal {
         match error {
             PoolError::OutOfMemory => Refusal::Memory,

@@ -1,5 +1,10 @@
 //! The types of the values that fields and extensions have.
 
+ghost use Rattle.std.specs.Prelude.{◌≡◌, IfOk, Some, option_map, true};
+ghost use Rattle.prost_reflect_dynamic.specs.Named.{message_row_named};
+ghost use Rattle.prost_reflect_dynamic.specs.declared.descriptor.kind.Kind.TheVariants.{Message};
+ghost use Rattle.prototool.specs.Naming.{HasInside};
+
 use prost_reflect::{Kind, MessageDescriptor};
 use std::alloc::AllocError;
 
@@ -24,15 +29,33 @@ pub fn kind_at(descriptor: &MessageDescriptor, number: u32) -> Result<Option<Kin
 /// # Errors
 ///
 /// `AllocError` if out of memory.
-pub fn message_inside(kind: Kind) -> Result<Option<MessageDescriptor>, AllocError> {
-    let Kind::Message(message) = kind else {
-        return Ok(None);
-    };
-    if !message.is_map_entry() {
-        return Ok(Some(message));
+pub fn message_inside(kind: Kind) -> Result<Option<MessageDescriptor>, AllocError>
+    ensures { IfOk result (HasInside kind) }
+{
+    match kind {
+        Kind::Message(message) => message_within(message),
+        _ => Ok(None),
     }
-    let value = message.map_entry_value_field()?;
-    match value.kind()? {
+}
+
+/// The message type itself, or that of the values in a map, if the type is that of the map's entries.
+fn message_within(message: MessageDescriptor) -> Result<Option<MessageDescriptor>, AllocError>
+    ensures { IfOk result (HasInside (Message message)) }
+{
+    if message.is_map_entry() {
+        return message_of_values(message);
+    }
+    Ok(Some(message))
+}
+
+/// The message type of the values in a map, if they are messages.
+fn message_of_values(entry: MessageDescriptor) -> Result<Option<MessageDescriptor>, AllocError>
+    requires { option_map (λ message. message.is_map_entry) (message_row_named entry) ≡ Some true }
+    ensures { IfOk result (HasInside (Message entry)) }
+{
+    let value = entry.map_entry_value_field()?;
+    let kind = value.kind()?;
+    match kind {
         Kind::Message(message) => Ok(Some(message)),
         _ => Ok(None),
     }
