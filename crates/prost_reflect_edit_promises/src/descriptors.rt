@@ -1,6 +1,6 @@
 //! Descriptors: names, the fields that are found, options, and which message type is a reduction of another.
 
-ghost use Rattle.std.specs.Prelude.{◌≡◌, ◌↔◌, Some, IfOk, IsTrue, option_map};
+ghost use Rattle.std.specs.Prelude.{◌≡◌, ◌↔◌, None, Some, IfOk, IsOk, IsTrue, option_map};
 ghost use Rattle.prost_reflect_wire.specs.Reduction.{Reduced};
 ghost use Rattle.prost_reflect_pool.specs.Lookups.{named_field};
 ghost use Rattle.prost_reflect_dynamic.specs.Named.{message_row_named, schema_named, type_named};
@@ -22,12 +22,13 @@ pub fn full_name_of(message_type: &MessageDescriptor) -> &str
 ///
 /// # Errors
 ///
-/// `AllocError` if out of memory.
+/// `AllocError` if out of memory; never where there is none.
 pub fn field_named(
     message_type: &MessageDescriptor,
     name: &str,
 ) -> Result<Option<FieldDescriptor>, AllocError>
-    ensures { IfOk result (λ found. option_map (λ field. field.index) found ≡ named_field (descriptor_fields message_type.now) name.now) }
+    ensures found { IfOk result (λ found. option_map (λ field. field.index) found ≡ named_field (descriptor_fields message_type.now) name.now) }
+    ensures missing { named_field (descriptor_fields message_type.now) name.now ≡ None → IsOk result }
 {
     message_type.get_field_by_name(name)
 }

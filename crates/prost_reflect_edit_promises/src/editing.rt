@@ -87,7 +87,7 @@ pub fn try_set(message: &mut DynamicMessage, number: u32, value: Value) -> Resul
 ///
 /// # Errors
 ///
-/// `AllocError` if out of memory.
+/// `AllocError` if out of memory; the message stays.
 pub fn set_through(
     alloc: Global,
     message: &mut DynamicMessage,
@@ -95,7 +95,8 @@ pub fn set_through(
     value: Value,
 ) -> Result<(), AllocError>
     requires { IsOwnField (message_type_of message.old) field.now }
-    ensures { OnOk result (content_of message.new ≡ value_set (number_of field.now) (value_of value) (content_of message.old)) }
+    ensures content { OnOk result (content_of message.new ≡ value_set (number_of field.now) (value_of value) (content_of message.old)) }
+    ensures unchanged { OnErr result (message.new ≡ message.old) }
 {
     *message.get_field_mut(alloc, field)? = value;
     Ok(())

@@ -1,6 +1,6 @@
 //! Pools: which files are added, what is found by name, when two pools are equal, and the records of files.
 
-ghost use Rattle.std.specs.Prelude.{◌≡◌, Some, IfErr, IfOk, OnErr, OnOk, option_map};
+ghost use Rattle.std.specs.Prelude.{◌≡◌, None, Some, IfErr, IfOk, IsOk, OnErr, OnOk, option_map};
 ghost use Rattle.prost_reflect_wire.specs.Grammar.{LEVEL_LIMIT};
 ghost use Rattle.prost_reflect_types.specs.DescriptorMeaning.{record_decoded};
 ghost use Rattle.prost_reflect_types.specs.DescriptorViews.{of_file};
@@ -38,9 +38,10 @@ pub fn add_files(
 ///
 /// # Errors
 ///
-/// `AllocError` if out of memory.
+/// `AllocError` if out of memory; never where there is none.
 pub fn find(pool: &DescriptorPool, name: &str) -> Result<Option<MessageDescriptor>, AllocError>
-    ensures { IfOk result (λ found. option_map (λ message. message.index) found ≡ message_place (pool_rows pool.now.inner) name.now) }
+    ensures found { IfOk result (λ found. option_map (λ message. message.index) found ≡ message_place (pool_rows pool.now.inner) name.now) }
+    ensures missing { message_place (pool_rows pool.now.inner) name.now ≡ None → IsOk result }
 {
     pool.get_message_by_name(name)
 }

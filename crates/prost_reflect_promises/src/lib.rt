@@ -8,11 +8,12 @@
 //! the gate would have to prove the largest crate twice. `prost_reflect_edit_promises` has the calls that change messages, and
 //! those of values, descriptors and pools.
 //!
-//! Begin with `reading`, which says what bytes mean; `writing` and `relaying` make bytes again, and `asking` has what a message
-//! is asked.
+//! Begin with `reading`, which says what bytes mean; `writing` and `relaying` make bytes again, `asking` has what a message is
+//! asked, and `nesting` what it and its values show of what is inside.
 #![tactic(auto)]
 
 mod asking;
+mod nesting;
 mod reading;
 mod relaying;
 mod writing;
@@ -20,6 +21,7 @@ mod writing;
 pub use asking::{
     fields_had, get, has, has_extended, is_typed, may_be_written, owns, store_the_same, unknown_had,
 };
+pub use nesting::{elements, fields_inside, part_shown, shown_inside};
 pub use reading::{merge, read, read_in_pieces};
 pub use relaying::relay_bytes;
 pub use writing::{write, written_len};

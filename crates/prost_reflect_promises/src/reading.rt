@@ -41,7 +41,8 @@ pub fn read_in_pieces(
     first: &[u8],
     second: &[u8],
 ) -> Result<DynamicMessage, DecodeError>
-    ensures { IfOk result (λ message. IsMeaningOfBytes (schema_named message_type) (type_named message_type) (first.now ++ second.now) (kept (content_of message))) }
+    ensures means { IfOk result (λ message. IsMeaningOfBytes (schema_named message_type) (type_named message_type) (first.now ++ second.now) (kept (content_of message))) }
+    ensures accepted { IfErr result (λ e. Accepts (schema_named message_type) LEVEL_LIMIT (type_named message_type) first.now → Accepts (schema_named message_type) LEVEL_LIMIT (type_named message_type) second.now → e ≡ DecodeError.OutOfMemory) }
 {
     let mut message = DynamicMessage::decode(alloc, message_type, first)?;
     message.merge(second)?;

@@ -1,8 +1,12 @@
 //! Calls with the descriptors that other calls give.
 
-ghost use Rattle.std.specs.Prelude.{IfOk, IfSome, IsTrue, Some};
-ghost use Rattle.prost_reflect_dynamic.specs.Access.{number_of};
+ghost use Rattle.std.specs.Prelude.{◌≡◌, true, false, is_some, IfNone, IfOk, IfSome, IsTrue, OnErr, Some};
+ghost use Rattle.prost_reflect_wire.specs.Schema.{passes};
+ghost use Rattle.prost_reflect_dynamic.specs.Access.{is_field_number, number_named, number_of, takes_at};
 ghost use Rattle.prost_reflect_dynamic.specs.Edits.{Sets};
+ghost use Rattle.prost_reflect_dynamic.specs.Setting.{DescribesField};
+ghost use Rattle.prost_reflect_dynamic.specs.View.{message_type_of};
+ghost use Rattle.prost_reflect_dynamic.specs.declared.descriptor.field.FieldDescriptor.{FieldDescriptor};
 
 use prost_reflect::{
     DynamicMessage, FieldDescriptor, Kind, MapKey, MessageDescriptor, Value, laws,
@@ -55,34 +59,45 @@ pub fn set_where_it_fits(
     Ok(())
 }
 
-/// Sets, by its number, the field that the look-up of a number finds, if the value fits it. Whether it did: then that number
-/// got the value.
+/// Sets, by its number, the field that the look-up of a number finds, if the value fits it. Whether it fits, or nothing where
+/// no field has the number: where it fits, that number got it, and else nothing changes.
 pub fn set_found_number(
     message: &mut DynamicMessage,
     number: u32,
     value: Value,
-) -> Result<bool, AllocError>
-    ensures { IfOk result (λ is_set. IsTrue is_set → Sets (Some number) value message.old message.new) }
+) -> Result<Option<bool>, AllocError>
+    ensures found { IfOk result (λ answer. IfSome answer (λ _. is_field_number (message_type_of message.old) number ≡ true)) }
+    ensures missing { IfOk result (λ answer. IfNone answer ((field : FieldDescriptor) → DescribesField (message_type_of message.old) number field → ⊥)) }
+    ensures fits { IfOk result (λ answer. IfSome answer (λ fits. fits ≡ takes_at (message_type_of message.old) number value)) }
+    ensures sets { IfOk result (λ answer. IfSome answer (λ fits. IsTrue fits → Sets (Some number) value message.old message.new)) }
+    ensures unchanged { IfOk result (λ answer. IfNone answer (message.new ≡ message.old)) }
+    ensures refused { IfOk result (λ answer. IfSome answer (λ fits. fits ≡ false → message.new ≡ message.old)) }
+    ensures err { OnErr result (message.new ≡ message.old) }
 {
     laws::number_found();
     let descriptor = message.descriptor()?;
-    if let Some(field) = descriptor.get_field(number)? {
-        if value.is_valid_for_field(&field) {
-            message.set_field_by_number(number, value)?;
-            return Ok(true);
-        }
+    let Some(field) = descriptor.get_field(number)? else {
+        return Ok(None);
+    };
+    if !value.is_valid_for_field(&field) {
+        return Ok(Some(false));
     }
-    Ok(false)
+    message.set_field_by_number(number, value)?;
+    Ok(Some(true))
 }
 
-/// Sets, by its name, the field that the look-up of a name finds, if the value fits it. The field, if it did: then that field
-/// got the value.
+/// Sets, by its name, the field that the look-up of a name finds, if the value fits it. That field, if there is one and it takes
+/// the value: then it got it, and else nothing changes.
 pub fn set_found_name(
     message: &mut DynamicMessage,
     name: &str,
     value: Value,
 ) -> Result<Option<FieldDescriptor>, AllocError>
-    ensures { IfOk result (λ found. IfSome found (λ field. Sets (Some (number_of field)) value message.old message.new)) }
+    ensures fits { IfOk result (λ found. is_some found ≡ passes (number_named (message_type_of message.old) name.now) (λ n. takes_at (message_type_of message.old) n value)) }
+    ensures field { IfOk result (λ found. IfSome found (λ field. number_named (message_type_of message.old) name.now ≡ Some (number_of field))) }
+    ensures sets { IfOk result (λ found. IfSome found (λ field. Sets (Some (number_of field)) value message.old message.new)) }
+    ensures unchanged { IfOk result (λ found. IfNone found (message.new ≡ message.old)) }
+    ensures err { OnErr result (message.new ≡ message.old) }
 {
     laws::name_found();
     let descriptor = message.descriptor()?;
