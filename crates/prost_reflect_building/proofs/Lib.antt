@@ -4,3 +4,4 @@ mod BuiltinFields
 mod BuiltinLinks
 mod BuiltinMessages
 mod BuiltinChecked
+mod Behind

@@ -1,22 +1,17 @@
 //! Adding files to pools.
 
-ghost use Rattle.std.specs.Prelude.{◌≡◌, ◌≢◌, ◌++◌, ◌∷◌, [], List, not, IsTrue, IfOk, IfErr, OnOk, OnErr};
+ghost use Rattle.std.specs.Prelude.{◌≡◌, ◌++◌, ◌∷◌, [], List, not, IsTrue, IfOk, IfErr, OnOk, OnErr};
 ghost use Rattle.prost_reflect_types.specs.DescriptorViews.{shared_files};
 ghost use Rattle.prost_reflect_types.specs.declared.FileDescriptorProto.{FileDescriptorProto};
 ghost use Rattle.prost_reflect_tables.specs.Adding.{is_there, added, AreNamesOf};
-ghost use Rattle.prost_reflect_tables.specs.Built.{AreTablesOf};
-ghost use Rattle.prost_reflect_tables.specs.Checked.{Stands};
-ghost use Rattle.prost_reflect_tables.specs.Flat.{flattened};
 ghost use Rattle.prost_reflect_tables.specs.FlatViews.{file_list};
-ghost use Rattle.prost_reflect_tables.specs.LinkedCatalog.{IsCatalogOf};
-ghost use Rattle.prost_reflect_tables.specs.Schema.{rows_of};
 ghost use Rattle.prost_reflect_tables.specs.declared.error.PoolError.TheVariants as pool_errors;
 ghost use Rattle.prost_reflect_pool.specs.FileNames.{names_differ};
 ghost use Rattle.prost_reflect_pool.specs.Pools.{files_of, IsPoolOf, RefusesFiles};
 
-use crate::building::build_tables;
+use crate::building::link_behind;
 use prost_reflect_pool::LinkedPool;
-use prost_reflect_tables::{Catalog, PoolError, Tables, text_or_empty};
+use prost_reflect_tables::{PoolError, text_or_empty};
 use prost_reflect_types::FileDescriptorProto;
 use std::alloc::{AllocError, Global};
 use std::collections::BTreeSet;
@@ -53,6 +48,17 @@ fn lent<'f>(
     Ok(lent)
 }
 
+/// Whether a file of the pool has the file's name. A file without a name has none.
+fn is_known(pool: &LinkedPool, file: &FileDescriptorProto) -> bool
+    ensures { result ≡ is_there (files_of pool.now) file.now }
+{
+    let name = text_or_empty(&file.name);
+    if name.is_empty() {
+        return false;
+    }
+    pool.file_place(name).is_some()
+}
+
 /// Adds the name of a file, if it has one, and answers whether it is new.
 fn add_name(
     alloc: Global,
@@ -69,82 +75,67 @@ fn add_name(
     Ok(names.insert(String::from_str(alloc, name)?)?)
 }
 
-/// The names of files.
-fn names_of(
-    alloc: Global,
-    files: &[Rc<FileDescriptorProto>],
-) -> Result<BTreeSet<String>, AllocError>
-    ensures { IfOk result (AreNamesOf (shared_files files.now)) }
-{
-    let mut names = BTreeSet::new(alloc);
-    for file in files {
-        add_name(alloc, &mut names, file)?;
-    }
-    Ok(names)
-}
-
-/// Adds a file at the end, unless one of its name is there.
+/// Adds a file behind the new ones, unless one of its name is in the pool or among them.
 fn add_file(
     alloc: Global,
-    files: &mut Vec<Rc<FileDescriptorProto>>,
+    pool: &LinkedPool,
+    new: &mut Vec<Rc<FileDescriptorProto>>,
     names: &mut BTreeSet<String>,
     file: FileDescriptorProto,
 ) -> Result<(), PoolError>
-    requires { AreNamesOf (shared_files files.old.items) names.old }
-    ensures names { OnOk result (AreNamesOf (shared_files files.new.items) names.new) }
-    ensures added { OnOk result ((batch : List FileDescriptorProto) → added (shared_files files.old.items) (file ∷ batch) ≡ added (shared_files files.new.items) batch) }
-    ensures differ { OnOk result (IsTrue (names_differ (shared_files files.old.items)) → IsTrue (names_differ (shared_files files.new.items))) }
+    requires { AreNamesOf (shared_files new.old.items) names.old }
+    ensures names { OnOk result (AreNamesOf (shared_files new.new.items) names.new) }
+    ensures added { OnOk result ((batch : List FileDescriptorProto) → added (files_of pool.now ++ shared_files new.old.items) (file ∷ batch) ≡ added (files_of pool.now ++ shared_files new.new.items) batch) }
+    ensures differ { OnOk result (IsTrue (names_differ (files_of pool.now ++ shared_files new.old.items)) → IsTrue (names_differ (files_of pool.now ++ shared_files new.new.items))) }
     ensures err { IfErr result (λ e. e ≡ pool_errors.OutOfMemory) }
 {
+    if is_known(pool, &file) {
+        return Ok(());
+    }
     if add_name(alloc, names, &file)? {
-        files.push(Rc::new(alloc, file)?)?;
+        new.push(Rc::new(alloc, file)?)?;
     }
     Ok(())
 }
 
-/// Adds the files of a batch that are not skipped, at the end.
-fn add_files(
+/// The files of a batch that are not skipped, in their order.
+fn new_files(
     alloc: Global,
-    files: &mut Vec<Rc<FileDescriptorProto>>,
+    pool: &LinkedPool,
     batch: Vec<FileDescriptorProto>,
-) -> Result<(), PoolError>
-    ensures added { OnOk result (shared_files files.new.items ≡ added (shared_files files.old.items) batch.items) }
-    ensures differ { OnOk result (IsTrue (names_differ (shared_files files.old.items)) → IsTrue (names_differ (shared_files files.new.items))) }
+) -> Result<Vec<Rc<FileDescriptorProto>>, PoolError>
+    ensures added { IfOk result (λ new. files_of pool.now ++ shared_files new.items ≡ added (files_of pool.now) batch.items) }
+    ensures differ { IfOk result (λ new. IsTrue (names_differ (files_of pool.now ++ shared_files new.items))) }
     ensures err { IfErr result (λ e. e ≡ pool_errors.OutOfMemory) }
 {
-    let mut names = names_of(alloc, files.as_slice())?;
+    let mut new = Vec::new(alloc);
+    let mut names = BTreeSet::new(alloc);
     for file in batch {
-        add_file(alloc, files, &mut names, file)?;
+        add_file(alloc, pool, &mut new, &mut names, file)?;
     }
-    Ok(())
+    Ok(new)
 }
 
-/// The tables of the files and their catalog, if they pass all checks.
-fn tables_of(
+/// The files of the pool, each shared once more, and new ones behind them.
+fn all_files(
     alloc: Global,
-    files: &[Rc<FileDescriptorProto>],
-) -> Result<(Tables, Catalog), PoolError>
-    ensures tables { IfOk result (λ t. AreTablesOf (shared_files files.now) (rows_of t.0)) }
-    ensures catalog { IfOk result (λ t. IsCatalogOf (shared_files files.now) t.1) }
-    ensures stands { IfErr result (λ e. e ≢ pool_errors.OutOfMemory → Stands e (shared_files files.now) (flattened (shared_files files.now))) }
+    pool: &LinkedPool,
+    new: Vec<Rc<FileDescriptorProto>>,
+) -> Result<Vec<Rc<FileDescriptorProto>>, AllocError>
+    ensures { IfOk result (λ files. shared_files files.items ≡ files_of pool.now ++ shared_files new.items) }
 {
-    let lent = lent(alloc, files)?;
-    build_tables(alloc, lent.as_slice())
-}
-
-/// The files with their tables, if they pass all checks; no two have one name.
-fn inner_of(alloc: Global, files: Vec<Rc<FileDescriptorProto>>) -> Result<LinkedPool, PoolError>
-    requires { IsTrue (names_differ (shared_files files.items)) }
-    ensures files { IfOk result (λ inner. files_of inner ≡ shared_files files.items) }
-    ensures stands { IfErr result (λ e. e ≢ pool_errors.OutOfMemory → Stands e (shared_files files.items) (flattened (shared_files files.items))) }
-{
-    let (tables, catalog) = tables_of(alloc, files.as_slice())?;
-    Ok(LinkedPool::of(files, tables, catalog))
+    let mut files = shared(alloc, pool.files())?;
+    let mut new = new;
+    files.append(&mut new)?;
+    Ok(files)
 }
 
 /// The pool of a pool's files and of those of the batch, in their order; they may depend on one another in any order.
 ///
-/// A file of a name that is there already is skipped unchecked, and of several files of one name the first is taken.
+/// A file of a name that is there already is skipped unchecked, and of several files of one name the first is taken. What the
+/// pool has is neither checked nor linked again, and stays shared with it. The cost grows as n log n in the number of added
+/// definitions; beside it stand a count for each file and for each 64 definitions of the pool, a copy of its places by name, and,
+/// where its messages are extended, what these have.
 ///
 /// # Errors
 ///
@@ -157,7 +148,9 @@ pub fn with_files(
     ensures refused { IfErr result (RefusesFiles (added (files_of pool.now) batch.items)) }
 {
     let alloc = *batch.allocator();
-    let mut all = shared(alloc, pool.files())?;
-    add_files(alloc, &mut all, batch)?;
-    inner_of(alloc, all)
+    let new = new_files(alloc, pool, batch)?;
+    let lent = lent(alloc, new.as_slice())?;
+    let (tables, catalog) = link_behind(alloc, pool, lent.as_slice())?;
+    drop(lent);
+    Ok(LinkedPool::of(all_files(alloc, pool, new)?, tables, catalog))
 }

@@ -2,13 +2,16 @@
 
 ghost use Rattle.std.specs.Prelude.{◌≡◌};
 ghost use Rattle.prost_reflect_tables.specs.FlatViews.{flat_rows};
-ghost use Rattle.prost_reflect_tables.specs.DefaultFaults.{is_float_type, bad_default, float_default};
-ghost use Rattle.prost_reflect_tables.specs.Resolved.{resolved_row, IsResolved};
+ghost use Rattle.prost_reflect_tables.specs.DefaultFaults.{is_float_type};
+ghost use Rattle.prost_reflect_resolving.specs.Indexed.{all_rows};
+ghost use Rattle.prost_reflect_resolving.specs.Resolved.{resolved_row, IsResolved};
+ghost use Rattle.prost_reflect_checks.specs.Added.{added_bad_default, added_float_default};
 ghost use Rattle.prost_reflect_tables.specs.ResolvedFaults.{misplaced, unread, bad_read, bad_float};
 
 use crate::fields::{is_code, is_message_type};
 use crate::walk::{any_resolved_extension, any_resolved_field};
-use prost_reflect_tables::{Flat, Resolved, ResolvedField};
+use prost_reflect_resolving::{Resolved, ResolvedField};
+use prost_reflect_tables::Flat;
 
 /// Whether a default stands at a list, at a message or in a proto3 file.
 fn is_default_misplaced(field: &ResolvedField) -> bool
@@ -39,11 +42,11 @@ fn is_default_bad(field: &ResolvedField) -> bool
         || (!is_float_type(field.definition.proto.type_) && is_default_unread(field))
 }
 
-/// Whether a default stands at a list, at a message or in a proto3 file, or, floats and doubles aside, gives no value of its
-/// field's kind.
+/// Whether an added default stands at a list, at a message or in a proto3 file, or, floats and doubles aside, gives no value of
+/// its field's kind.
 pub fn has_bad_default(resolved: &Resolved, flat: &Flat) -> bool
     requires { IsResolved resolved.now (flat_rows flat.now) }
-    ensures { result ≡ bad_default (flat_rows flat.now) }
+    ensures { result ≡ added_bad_default (all_rows resolved.now.index.base (flat_rows flat.now)) (flat_rows flat.now) }
 {
     any_resolved_field(resolved, flat, &is_default_bad)
         || any_resolved_extension(resolved, flat, &is_default_bad)
@@ -55,10 +58,10 @@ fn is_float_default_bad(field: &ResolvedField) -> bool
     is_float_type(field.definition.proto.type_) && is_default_unread(field)
 }
 
-/// Whether the default of a float or a double is neither `inf`, `-inf`, `nan` nor a whole number up to 2^24 or 2^53.
+/// Whether the added default of a float or a double is neither `inf`, `-inf`, `nan` nor a whole number up to 2^24 or 2^53.
 pub fn has_float_default(resolved: &Resolved, flat: &Flat) -> bool
     requires { IsResolved resolved.now (flat_rows flat.now) }
-    ensures { result ≡ float_default (flat_rows flat.now) }
+    ensures { result ≡ added_float_default (all_rows resolved.now.index.base (flat_rows flat.now)) (flat_rows flat.now) }
 {
     any_resolved_field(resolved, flat, &is_float_default_bad)
         || any_resolved_extension(resolved, flat, &is_float_default_bad)

@@ -1,11 +1,13 @@
-//! All checks of files, one after another.
+//! All checks of added files, one after another.
 
-ghost use Rattle.std.specs.Prelude.{◌≡◌, ◌≢◌, false, IfOk, IfErr, OnOk};
+ghost use Rattle.std.specs.Prelude.{◌≡◌, ◌≢◌, true, false, IfOk, IfErr, OnOk};
 ghost use Rattle.std.specs.List.{list_any};
 ghost use Rattle.prost_reflect_tables.specs.declared.error.PoolError.TheVariants as pool_errors;
-ghost use Rattle.prost_reflect_tables.specs.Checked.{has_fault, Checked, Stands};
+ghost use Rattle.prost_reflect_base.specs.Below.{files_below, rows_below};
+ghost use Rattle.prost_reflect_growth.specs.ChecksGrow.{added_fault};
+ghost use Rattle.prost_reflect_tables.specs.declared.error.PoolError.{PoolError};
 ghost use Rattle.prost_reflect_tables.specs.FlatViews.{file_list, flat_rows};
-ghost use Rattle.prost_reflect_tables.specs.Resolved.{IsResolved};
+ghost use Rattle.prost_reflect_resolving.specs.Resolved.{IsResolved};
 
 use crate::defaults::{has_bad_default, has_float_default};
 use crate::entries::has_bad_map_entry;
@@ -18,7 +20,9 @@ use crate::numbers::has_duplicate_number;
 use crate::options::has_bad_options;
 use crate::ranges::{has_bad_range, has_outside_range};
 use crate::types::{has_missing_dependency, has_unknown_type};
-use prost_reflect_tables::{Flat, PoolError, Resolved, all_resolved};
+use prost_reflect_base::Base;
+use prost_reflect_resolving::{Resolved, all_resolved};
+use prost_reflect_tables::{Flat, PoolError};
 use prost_reflect_types::FileDescriptorProto;
 use std::alloc::{AllocError, Global};
 
@@ -44,7 +48,7 @@ const FAULTS: [PoolError; 18] = [
     PoolError::FloatDefault,
 ];
 
-/// Whether files have the fault of this name.
+/// Whether added files have the fault of this name.
 fn has_fault(
     alloc: Global,
     fault: PoolError,
@@ -53,7 +57,7 @@ fn has_fault(
     resolved: &Resolved,
 ) -> Result<bool, AllocError>
     requires { IsResolved resolved.now (flat_rows flat.now) }
-    ensures { IfOk result (λ b. b ≡ has_fault fault (file_list files.now) (flat_rows flat.now)) }
+    ensures { IfOk result (λ b. b ≡ added_fault fault (files_below resolved.now.index.base) (file_list files.now) (rows_below resolved.now.index.base) (flat_rows flat.now)) }
 {
     match fault {
         PoolError::MissingName => Ok(has_missing_name(files, flat)),
@@ -66,8 +70,8 @@ fn has_fault(
         PoolError::BadOneof => Ok(has_bad_oneof(flat)),
         PoolError::EmptyEnum => Ok(has_empty_enum(flat)),
         PoolError::BadOptions => Ok(has_bad_options(flat)),
-        PoolError::MissingDependency => has_missing_dependency(alloc, files),
-        PoolError::DuplicateName => has_duplicate_name(alloc, flat),
+        PoolError::MissingDependency => has_missing_dependency(alloc, resolved.index.base, files),
+        PoolError::DuplicateName => has_duplicate_name(alloc, resolved.index.base, flat),
         PoolError::UnknownType => Ok(has_unknown_type(resolved, flat)),
         PoolError::DuplicateNumber => has_duplicate_number(alloc, resolved, flat),
         PoolError::OutsideRange => has_outside_range(alloc, resolved, flat),
@@ -87,8 +91,8 @@ fn check_faults(
     resolved: &Resolved,
 ) -> Result<(), PoolError>
     requires { IsResolved resolved.now (flat_rows flat.now) }
-    ensures ok { OnOk result (list_any (λ e. has_fault e (file_list files.now) (flat_rows flat.now)) faults.now ≡ false) }
-    ensures stands { IfErr result (λ e. e ≢ pool_errors.OutOfMemory → Stands e (file_list files.now) (flat_rows flat.now)) }
+    ensures ok { OnOk result (list_any (λ e. added_fault e (files_below resolved.now.index.base) (file_list files.now) (rows_below resolved.now.index.base) (flat_rows flat.now)) faults.now ≡ false) }
+    ensures stands { IfErr result (λ e. e ≢ pool_errors.OutOfMemory → added_fault e (files_below resolved.now.index.base) (file_list files.now) (rows_below resolved.now.index.base) (flat_rows flat.now) ≡ true) }
 {
     for fault in faults {
         if has_fault(alloc, *fault, files, flat, resolved)? {
@@ -98,21 +102,24 @@ fn check_faults(
     Ok(())
 }
 
-/// Checks the definitions of files, and gives the fields and extensions with what their texts mean.
+/// Checks the definitions of files that are added to a pool, and gives their fields and extensions with what their texts mean. What
+/// the pool has is not checked again.
 ///
 /// # Errors
 ///
-/// The name of a fault that the files have, or `OutOfMemory` if memory runs out.
-pub fn check_files<'f, 'a>(
+/// The name of a fault that the added files have in the pool, or `OutOfMemory` if memory runs out.
+pub fn check_added<'f, 'a>(
     alloc: Global,
+    base: Base<'f>,
     files: &[&FileDescriptorProto],
     flat: &'f Flat<'a>,
 ) -> Result<Resolved<'f>, PoolError>
-    ensures ok { OnOk result (Checked (file_list files.now) (flat_rows flat.now)) }
+    ensures ok { OnOk result ((e : PoolError) → added_fault e (files_below base.entry) (file_list files.now) (rows_below base.entry) (flat_rows flat.now) ≡ false) }
     ensures resolved { IfOk result (λ resolved. IsResolved resolved (flat_rows flat.now)) }
-    ensures stands { IfErr result (λ e. e ≢ pool_errors.OutOfMemory → Stands e (file_list files.now) (flat_rows flat.now)) }
+    ensures base { IfOk result (λ resolved. resolved.index.base ≡ base.entry) }
+    ensures stands { IfErr result (λ e. e ≢ pool_errors.OutOfMemory → added_fault e (files_below base.entry) (file_list files.now) (rows_below base.entry) (flat_rows flat.now) ≡ true) }
 {
-    let resolved = all_resolved(alloc, flat)?;
+    let resolved = all_resolved(alloc, base, flat)?;
     check_faults(alloc, &FAULTS, files, flat, &resolved)?;
     Ok(resolved)
 }

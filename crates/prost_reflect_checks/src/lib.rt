@@ -1,8 +1,10 @@
-//! The checks of files: each fault that files may have has a name, and a test that looks for it.
+//! The checks of files that are added to a pool: each fault that files may have has a name, and a test that looks for it.
 //!
-//! `check_files` takes the definitions of files in flat lists, as `prost_reflect_tables` makes them, and promises: it hands on
-//! each field with what its texts mean exactly where the files have none of the eighteen faults, and else names one that they
-//! have, or is out of memory. What each fault is stands in the definitions of `prost_reflect_tables` (`specs/Checked`).
+//! `check_added` takes the added definitions in flat lists, as `prost_reflect_tables` makes them, and the pool that is there, and
+//! promises: it hands on each added field with what its texts mean exactly where pool and added files together have none of the
+//! eighteen faults, and else names one that they have, or is out of memory. It looks at the added definitions alone, and asks the
+//! pool what these name. What each fault is stands in the definitions of `prost_reflect_tables` (`specs/Checked`), and why the
+//! added definitions tell it in `prost_reflect_growth`.
 //!
 //! Begin with `faults`, the list of all checks in their order; `walk` has the walks over definitions of a sort that each check
 //! hands its test to, and the other modules hold the tests, by topic.
@@ -20,4 +22,4 @@ mod ranges;
 mod types;
 mod walk;
 
-pub use faults::check_files;
+pub use faults::check_added;

@@ -2,10 +2,15 @@
 //! known.
 
 ghost use Rattle.std.specs.Prelude.{◌≡◌, [], ◌++◌, IfOk, OnOk, map};
-ghost use Rattle.prost_reflect_tables.specs.Faults.{is_unnamed, message_unnamed, enum_unnamed, service_unnamed, missing_name, syntax_unknown, unknown_syntax, names_in_messages, names_in_enums, names_in_services, full_names, repeats, duplicate_name};
+ghost use Rattle.prost_reflect_tables.specs.Faults.{is_unnamed, message_unnamed, enum_unnamed, service_unnamed, missing_name, syntax_unknown, unknown_syntax, names_in_messages, names_in_enums, names_in_services, full_names, repeats};
+ghost use Rattle.std.specs.List.{list_any};
+ghost use Rattle.std.specs.Str.{bytes_eq};
+ghost use Rattle.prost_reflect_base.specs.Below.{rows_below};
+ghost use Rattle.prost_reflect_growth.specs.ChecksGrow.{added_names_repeat};
 ghost use Rattle.prost_reflect_tables.specs.FlatViews.{file_list, message_row, enum_row, service_row, flat_rows, text_list};
 
-use crate::walk::{any_definition, any_enum, any_file, any_message, any_service};
+use crate::walk::{any, any_definition, any_enum, any_file, any_message, any_service};
+use prost_reflect_base::Base;
 use prost_reflect_tables::{Flat, FlatEnum, FlatMessage, FlatService, add_names, text_or_empty};
 use prost_reflect_types::FileDescriptorProto;
 use std::alloc::{AllocError, Global};
@@ -141,14 +146,21 @@ fn repeats(names: &mut Vec<&str>) -> bool
     names.as_slice().len() < count
 }
 
-/// Whether two definitions have one full name.
+/// Whether a definition of the pool has one of the names.
+fn is_one_taken(base: Base<'_>, names: &[&str]) -> bool
+    ensures { result ≡ list_any (λ n. list_any (bytes_eq n) (full_names (rows_below base.entry))) (text_list names.now) }
+{
+    any(names, &|name| base.has_name(name))
+}
+
+/// Whether an added definition has the full name of another one, of the pool or added.
 ///
 /// # Errors
 ///
 /// `AllocError` if out of memory.
-pub fn has_duplicate_name(alloc: Global, flat: &Flat) -> Result<bool, AllocError>
-    ensures { IfOk result (λ b. b ≡ duplicate_name (flat_rows flat.now)) }
+pub fn has_duplicate_name(alloc: Global, base: Base<'_>, flat: &Flat) -> Result<bool, AllocError>
+    ensures { IfOk result (λ b. b ≡ added_names_repeat (rows_below base.entry) (flat_rows flat.now)) }
 {
     let mut names = full_names(alloc, flat)?;
-    Ok(repeats(&mut names))
+    Ok(is_one_taken(base, names.as_slice()) || repeats(&mut names))
 }

@@ -1,18 +1,20 @@
 //! The checks of ranges, and that the numbers of extensions are in extension ranges of the messages that they extend.
 //!
-//! The extension ranges of a message are put in order once, so that a number is found among them at once.
+//! The extension ranges of each message that is extended are put in order once, so that a number is found among them at once.
 
-ghost use Rattle.std.specs.Prelude.{◌≡◌, IfOk, map};
-ghost use Rattle.std.specs.List.{list_any};
+ghost use Rattle.std.specs.Prelude.{◌≡◌, IfOk, map, option_map, slice_get};
+ghost use Rattle.std.specs.List.{All, list_any};
 ghost use Rattle.std.specs.List.Sorted.{IsNonDecreasingBy};
-ghost use Rattle.prost_reflect_tables.specs.Faults.{range_bad, message_range_bad, enum_range_bad, bad_range, is_in_range, outside_range};
+ghost use Rattle.prost_reflect_tables.specs.Faults.{range_bad, message_range_bad, enum_range_bad, bad_range, is_in_range, extension_outside};
 ghost use Rattle.prost_reflect_tables.specs.FlatViews.{message_row, enum_row, flat_rows};
-ghost use Rattle.prost_reflect_tables.specs.Resolved.{resolved_row, IsResolved};
+ghost use Rattle.prost_reflect_resolving.specs.Indexed.{all_rows};
+ghost use Rattle.prost_reflect_resolving.specs.Resolved.{resolved_row, IsResolved};
 ghost use Rattle.prost_reflect_tables.specs.ResolvedFaults.{found_outside};
-ghost use Rattle.prost_reflect_tables.specs.Spans.{is_in_span, span_of, reaching, AreSpansOf, AreSpansOfAll};
+ghost use Rattle.prost_reflect_tables.specs.Spans.{is_in_span, span_of, reaching, ranges_of, AreSpansOf, AreSpansIn};
 
 use crate::walk::{any, any_enum, any_message, any_resolved_extension};
-use prost_reflect_tables::{Flat, FlatEnum, FlatMessage, Resolved, ResolvedField, natural_or_zero};
+use prost_reflect_resolving::{Resolved, ResolvedField};
+use prost_reflect_tables::{Flat, FlatEnum, FlatMessage, natural_or_zero};
 use prost_reflect_types::ExtensionRange;
 use std::alloc::{AllocError, Global};
 
@@ -92,14 +94,59 @@ fn spans_of(alloc: Global, ranges: &[ExtensionRange]) -> Result<Vec<(u32, u32)>,
     reaching(alloc, spans.as_slice())
 }
 
-/// The spans of each message's ranges.
-fn spans_of_all(alloc: Global, messages: &[FlatMessage]) -> Result<Vec<Vec<(u32, u32)>>, AllocError>
-    ensures { IfOk result (λ v. AreSpansOfAll v.items (map message_row messages.now)) }
+/// The extension ranges of the added message at a place among the added ones.
+fn added_ranges<'f>(flat: &'f Flat, offset: usize) -> Option<&'f [ExtensionRange]>
+    ensures { option_map (λ r. r.now) result ≡ ranges_of (slice_get (flat_rows flat.now).messages offset) }
 {
-    let mut spans = Vec::new(alloc);
-    for message in messages {
-        let ranges = message.definition.proto.extension_range.as_slice();
-        spans.push(spans_of(alloc, ranges)?)?;
+    match flat.messages.get(offset) {
+        Some(message) => Some(message.definition.proto.extension_range.as_slice()),
+        None => None,
+    }
+}
+
+/// The extension ranges of the message at a place, of the pool or added.
+fn ranges_at<'f>(
+    resolved: &'f Resolved,
+    flat: &'f Flat,
+    place: usize,
+) -> Option<&'f [ExtensionRange]>
+    ensures { option_map (λ r. r.now) result ≡ ranges_of (slice_get (all_rows resolved.now.index.base (flat_rows flat.now)).messages place) }
+{
+    let count = resolved.index.base.message_count();
+    if place < count {
+        resolved.index.base.extension_ranges(place)
+    } else {
+        added_ranges(flat, place - count)
+    }
+}
+
+/// The places of the messages that are extended, each once and in ascending order.
+fn extended_places(alloc: Global, extensions: &[ResolvedField]) -> Result<Vec<usize>, AllocError> {
+    let mut places = Vec::with_capacity(alloc, extensions.len())?;
+    for extension in extensions {
+        if let Some(place) = extension.extendee {
+            places.push(place)?;
+        }
+    }
+    places.sort_unstable();
+    places.dedup();
+    Ok(places)
+}
+
+/// The spans of the messages at these places, of those that are there.
+fn spans_at(
+    alloc: Global,
+    resolved: &Resolved,
+    flat: &Flat,
+    places: &[usize],
+) -> Result<Vec<(usize, Vec<(u32, u32)>)>, AllocError>
+    ensures { IfOk result (λ v. AreSpansIn (all_rows resolved.now.index.base (flat_rows flat.now)) v.items) }
+{
+    let mut spans = Vec::with_capacity(alloc, places.len())?;
+    for place in places {
+        if let Some(ranges) = ranges_at(resolved, flat, *place) {
+            spans.push((*place, spans_of(alloc, ranges)?))?;
+        }
     }
     Ok(spans)
 }
@@ -137,28 +184,49 @@ fn is_covered(number: i32, ranges: &[ExtensionRange], spans: &[(u32, u32)]) -> b
     }
 }
 
-fn is_extension_outside(flat: &Flat, spans: &[Vec<(u32, u32)>], extension: &ResolvedField) -> bool
-    requires { AreSpansOfAll spans.now (flat_rows flat.now).messages }
-    ensures { result ≡ found_outside (flat_rows flat.now) (resolved_row extension.now) }
+/// Whether the number is in one of the ranges of the message at the place, which is looked for among the spans.
+fn is_covered_at(
+    number: i32,
+    ranges: &[ExtensionRange],
+    spans: &[(usize, Vec<(u32, u32)>)],
+    place: usize,
+) -> bool
+    requires { All (λ own. own.0 ≡ place → AreSpansOf own.1.items ranges.now) spans.now }
+    ensures { result ≡ list_any (is_in_range number) ranges.now }
+{
+    if let Ok(found) = spans.binary_search_by_key(&place, |own| own.0) {
+        let own = &spans[found];
+        if own.0 == place {
+            return is_covered(number, ranges, own.1.as_slice());
+        }
+    }
+    any(ranges, &|range| is_in_range(number, range))
+}
+
+fn is_extension_outside(
+    resolved: &Resolved,
+    flat: &Flat,
+    spans: &[(usize, Vec<(u32, u32)>)],
+    extension: &ResolvedField,
+) -> bool
+    requires { AreSpansIn (all_rows resolved.now.index.base (flat_rows flat.now)) spans.now }
+    ensures { result ≡ found_outside (all_rows resolved.now.index.base (flat_rows flat.now)) (resolved_row extension.now) }
 {
     let Some(place) = extension.extendee else {
         return false;
     };
-    let Some(message) = flat.messages.get(place) else {
+    let Some(ranges) = ranges_at(resolved, flat, place) else {
         return false;
     };
-    let Some(spans) = spans.get(place) else {
-        return false;
-    };
-    let ranges = message.definition.proto.extension_range.as_slice();
-    !is_covered(
+    !is_covered_at(
         extension.definition.proto.number.unwrap_or(0),
         ranges,
-        spans.as_slice(),
+        spans,
+        place,
     )
 }
 
-/// Whether an extension's number is in no extension range of the message that it extends.
+/// Whether an added extension's number is in no extension range of the message that it extends.
 ///
 /// # Errors
 ///
@@ -169,13 +237,14 @@ pub fn has_outside_range(
     flat: &Flat,
 ) -> Result<bool, AllocError>
     requires { IsResolved resolved.now (flat_rows flat.now) }
-    ensures { IfOk result (λ b. b ≡ outside_range (flat_rows flat.now)) }
+    ensures { IfOk result (λ b. b ≡ list_any (extension_outside (all_rows resolved.now.index.base (flat_rows flat.now))) (flat_rows flat.now).extensions) }
 {
-    let spans = spans_of_all(alloc, flat.messages.as_slice())?;
+    let places = extended_places(alloc, resolved.extensions.as_slice())?;
+    let spans = spans_at(alloc, resolved, flat, places.as_slice())?;
     let spans = spans.as_slice();
     Ok(any_resolved_extension(
         resolved,
         flat,
-        &|extension| { is_extension_outside(flat, spans, extension) },
+        &|extension| { is_extension_outside(resolved, flat, spans, extension) },
     ))
 }

@@ -9,12 +9,13 @@ ghost use Rattle.prost_reflect_tables.specs.Faults.{any_field};
 ghost use Rattle.prost_reflect_tables.specs.Flat.{DefinitionRow, FlatMessageRow, FlatEnumRow, FlatServiceRow};
 ghost use Rattle.prost_reflect_tables.specs.FlatViews.{definition_row, file_list, message_row, enum_row, service_row, flat_rows};
 ghost use Rattle.prost_reflect_tables.specs.Linking.{links_of};
-ghost use Rattle.prost_reflect_tables.specs.Resolved.{ResolvedRow, resolve, resolved_row, resolved_lists, IsResolved};
+ghost use Rattle.prost_reflect_tables.specs.Resolved.{ResolvedRow, resolve};
+ghost use Rattle.prost_reflect_resolving.specs.Indexed.{all_rows};
+ghost use Rattle.prost_reflect_resolving.specs.Resolved.{resolved_row, resolved_lists, IsResolved};
 ghost use Rattle.prost_reflect_tables.specs.Walks.{Computes};
 
-use prost_reflect_tables::{
-    Definition, Flat, FlatEnum, FlatMessage, FlatService, Resolved, ResolvedField,
-};
+use prost_reflect_resolving::{Resolved, ResolvedField};
+use prost_reflect_tables::{Definition, Flat, FlatEnum, FlatMessage, FlatService};
 use prost_reflect_types::{FieldDescriptorProto, FileDescriptorProto, MethodDescriptorProto};
 
 /// Whether one of the items passes the test.
@@ -161,7 +162,7 @@ pub fn any_resolved_field<'f, F: Fn(&ResolvedField<'f>) -> bool>(
 ) -> bool
     requires callable { F.IsAlwaysCallable test.now }
     requires resolved { IsResolved resolved.now (flat_rows flat.now) }
-    ensures { (p : ResolvedRow → Bool) (q : DefinitionRow FieldDescriptorProto → Bool) → Computes F.Fn test.now (λ f. p (resolved_row f)) → ((d : DefinitionRow FieldDescriptorProto) → p (resolve (links_of (flat_rows flat.now)) d) ≡ q d) → result ≡ list_any (λ m. list_any q m.fields) (flat_rows flat.now).messages }
+    ensures { (p : ResolvedRow → Bool) (q : DefinitionRow FieldDescriptorProto → Bool) → Computes F.Fn test.now (λ f. p (resolved_row f)) → ((d : DefinitionRow FieldDescriptorProto) → p (resolve (links_of (all_rows resolved.now.index.base (flat_rows flat.now))) d) ≡ q d) → result ≡ list_any (λ m. list_any q m.fields) (flat_rows flat.now).messages }
 {
     any_resolved_in(resolved.fields.as_slice(), test)
 }
@@ -174,7 +175,7 @@ pub fn any_resolved_extension<'f, F: Fn(&ResolvedField<'f>) -> bool>(
 ) -> bool
     requires callable { F.IsAlwaysCallable test.now }
     requires resolved { IsResolved resolved.now (flat_rows flat.now) }
-    ensures { (p : ResolvedRow → Bool) (q : DefinitionRow FieldDescriptorProto → Bool) → Computes F.Fn test.now (λ f. p (resolved_row f)) → ((d : DefinitionRow FieldDescriptorProto) → p (resolve (links_of (flat_rows flat.now)) d) ≡ q d) → result ≡ list_any q (flat_rows flat.now).extensions }
+    ensures { (p : ResolvedRow → Bool) (q : DefinitionRow FieldDescriptorProto → Bool) → Computes F.Fn test.now (λ f. p (resolved_row f)) → ((d : DefinitionRow FieldDescriptorProto) → p (resolve (links_of (all_rows resolved.now.index.base (flat_rows flat.now))) d) ≡ q d) → result ≡ list_any q (flat_rows flat.now).extensions }
 {
     any_resolved(resolved.extensions.as_slice(), test)
 }

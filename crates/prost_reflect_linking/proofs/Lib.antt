@@ -1,3 +1,10 @@
 mod Common
+mod Listed
 mod Outlines
 mod Paired
+mod GatheredFrom
+mod FileNames
+mod Pushed
+mod GrownLists
+mod MovedExtensions
+mod Merged

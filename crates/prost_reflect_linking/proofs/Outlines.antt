@@ -1,9 +1,8 @@
 -- What extensions extend, and where their rows stand.
 use Rattle.std.specs.Prelude.{◌≡◌, ◌∷◌}
-use Rattle.prost_reflect_linking.proofs.Common.{List, [], map, refl, ap, ◌∙◌, links_of, linked_extension, DefinitionRow, TableRows}
+use Rattle.prost_reflect_linking.proofs.Common.{List, [], map, refl, ap, ◌∙◌, linked_extension, DefinitionRow, TableRows}
 use Rattle.prost_reflect_types.specs.declared.FieldDescriptorProto.{FieldDescriptorProto}
-use Rattle.prost_reflect_tables.specs.Flat.{FlatRows}
-use Rattle.prost_reflect_tables.specs.Linking.{Links, linked_rows}
+use Rattle.prost_reflect_tables.specs.Linking.{Links}
 use Rattle.prost_reflect_tables.specs.Resolved.{resolve}
 use Rattle.prost_reflect_linking.specs.Outlines.{ExtendedRow, extended, found_extended, placed}
 
@@ -19,5 +18,5 @@ all_placed : (linked : TableRows) (links : Links) (ds : List (DefinitionRow Fiel
 all_placed linked links [] = refl
 all_placed linked links (d ∷ ds) = ap (λ es. linked_extension links linked d ∷ es) (all_placed linked links ds)
 
-pub extensions_placed : (linked : TableRows) (rows : FlatRows) → linked ≡ linked_rows rows → map (placed linked) (map (extended (links_of rows)) rows.extensions) ≡ map (linked_extension (links_of rows) (linked_rows rows)) rows.extensions
-extensions_placed linked rows is = all_placed linked (links_of rows) rows.extensions ∙ ap (λ (r : TableRows). map (linked_extension (links_of rows) r) rows.extensions) is
+pub extensions_placed : (linked grown : TableRows) (links : Links) (ds : List (DefinitionRow FieldDescriptorProto)) → linked ≡ grown → map (placed linked) (map (extended links) ds) ≡ map (linked_extension links grown) ds
+extensions_placed linked grown links ds is = all_placed linked links ds ∙ ap (λ (r : TableRows). map (linked_extension links r) ds) is

@@ -72,7 +72,7 @@ extendee_of p = p.1.extendee
 abbrev pub pairs_of : Links → List (DefinitionRow FieldDescriptorProto) → List Pair
 pairs_of links ds = zip ds (map (λ (d : DefinitionRow FieldDescriptorProto). meant (resolve links d)) ds)
 
-belonging_of : (links : Links) (T : ℕ) (ds : List (DefinitionRow FieldDescriptorProto)) → map (field_meant true) (belonging extendee_of (pairs_of links ds) T) ≡ map (linked_field links true) (belonging (extended_place links) ds T)
+pub belonging_of : (links : Links) (T : ℕ) (ds : List (DefinitionRow FieldDescriptorProto)) → map (field_meant true) (belonging extendee_of (pairs_of links ds) T) ≡ map (linked_field links true) (belonging (extended_place links) ds T)
 belonging_of links T [] = refl
 belonging_of links T (d ∷ ds) =
     let ps = belonging extendee_of (pairs_of links ds) T in
@@ -118,5 +118,5 @@ empty_long : (n : ℕ) → length (empty_lists {X = FieldRow} n) ≡ n
 empty_long zero = refl
 empty_long (suc n) = ap suc (empty_long n)
 
-pub extensions_long : (xs : List Pair) (n : ℕ) (lists : List (Vec FieldTable Global)) → list_rows lists ≡ grouped extendee_of (field_meant true) xs 0 (empty_lists n) → length lists ≡ n
-extensions_long xs n lists e = sym (length-map lists (λ (v : Vec FieldTable Global). map field_row v.items)) ∙ (ap (λ (ls : List (List FieldRow)). length ls) e ∙ (grouped_long xs 0 (empty_lists n) ∙ empty_long n))
+pub extensions_long : (xs : List Pair) (i n : ℕ) (lists : List (Vec FieldTable Global)) → list_rows lists ≡ grouped extendee_of (field_meant true) xs i (empty_lists n) → length lists ≡ n
+extensions_long xs i n lists e = sym (length-map lists (λ (v : Vec FieldTable Global). map field_row v.items)) ∙ (ap (λ (ls : List (List FieldRow)). length ls) e ∙ (grouped_long xs i (empty_lists n) ∙ empty_long n))

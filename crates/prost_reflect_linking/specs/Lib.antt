@@ -1,3 +1,5 @@
 pub mod GatheredLists
+pub mod Grown
 pub mod Meanings
 pub mod Outlines
+pub mod Sorts

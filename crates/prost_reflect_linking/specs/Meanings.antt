@@ -7,7 +7,7 @@ use Rattle.prost_reflect_wire.specs.Scalar.{Scalar}
 use Rattle.prost_reflect_linking.specs.declared.meaning.Meaning.{Meaning}
 use Rattle.prost_reflect_tables.specs.declared.tables.TableKind.{TableKind}
 use Rattle.prost_reflect_tables.specs.Flat.{DefinitionRow, FlatMessageRow, FlatRows}
-use Rattle.prost_reflect_tables.specs.Linking.{field_with, links_of, linked_message}
+use Rattle.prost_reflect_tables.specs.Linking.{Links, field_with, linked_message}
 use Rattle.prost_reflect_tables.specs.Resolved.{ResolvedRow, resolve}
 use Rattle.prost_reflect_tables.specs.Rows.{FieldRow, MessageRow, written_scalar}
 
@@ -38,5 +38,5 @@ messages_meant (es ∷ ess) (ns ∷ nss) (m ∷ ms) = linked_message (all_meant 
 messages_meant ess nss ms = []
 
 -- What the texts of all fields mean.
-abbrev pub AreMeaningsOf : List (Vec Meaning Global) → FlatRows → Type 0
-AreMeaningsOf lists rows = meaning_lists lists ≡ map (λ rs. map meant rs) (map (λ m. map (resolve (links_of rows)) m.fields) rows.messages)
+abbrev pub AreMeaningsOf : List (Vec Meaning Global) → Links → FlatRows → Type 0
+AreMeaningsOf lists links rows = meaning_lists lists ≡ map (λ rs. map meant rs) (map (λ m. map (resolve links) m.fields) rows.messages)

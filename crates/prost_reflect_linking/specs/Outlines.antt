@@ -1,14 +1,20 @@
 -- What a catalog takes of flat lists alone, before the rows are made. For contracts of linking alone.
-use Rattle.std.specs.Prelude.{◌≡◌, ℕ, List, map, unwrap_or}
+use Rattle.std.specs.Prelude.{◌≡◌, ℕ, List, [], ◌∷◌, ◌++◌, length, map, option_map, slice_get, slice_set, unwrap_or}
 use Rattle.prost_reflect_types.specs.declared.FieldDescriptorProto.{FieldDescriptorProto}
 use Rattle.prost_reflect_types.specs.declared.FileDescriptorProto.{FileDescriptorProto}
+use Rattle.prost_reflect_base.specs.declared.Base.{Base}
+use Rattle.prost_reflect_base.specs.Below.{files_below, rows_below, catalog_below}
+use Rattle.prost_reflect_growth.specs.CatalogGrow.{added_file}
+use Rattle.prost_reflect_growth.specs.Merging.{grown_sorted}
+use Rattle.prost_reflect_growth.specs.RowsGrow.{number_of_row}
 use Rattle.prost_reflect_linking.specs.declared.catalog.Outline.{Outline}
 use Rattle.prost_reflect_linking.specs.declared.extensions.Extended.{Extended}
-use Rattle.prost_reflect_linking.specs.GatheredLists.{AreInner}
+use Rattle.prost_reflect_linking.specs.GatheredLists.{AreInner, AreFurther}
+use Rattle.prost_reflect_resolving.specs.Indexed.{all_rows}
 use Rattle.prost_reflect_tables.specs.CatalogRows.{ExtensionRow, file_table_row, enum_lists_row, service_table_row, sorted_row}
 use Rattle.prost_reflect_tables.specs.Faults.{file_names}
 use Rattle.prost_reflect_tables.specs.Flat.{DefinitionRow, FlatRows}
-use Rattle.prost_reflect_tables.specs.LinkedCatalog.{each_from, linked_file, enum_lists, linked_service, sorted_places}
+use Rattle.prost_reflect_tables.specs.LinkedCatalog.{each_from, enum_lists, linked_service}
 use Rattle.prost_reflect_tables.specs.Linking.{Links, links_of, natural_or_zero, place_or_first}
 use Rattle.prost_reflect_tables.specs.Places as places
 use Rattle.prost_reflect_tables.specs.Resolved.{ResolvedRow}
@@ -35,12 +41,27 @@ extended links d = record { message = place_or_first links.messages d.proto.exte
 abbrev pub placed : TableRows → ExtendedRow → ExtensionRow
 placed linked e = record { message = e.message; field = unwrap_or (places.place_of (places.fields_at linked e.message) e.number) 0 }
 
+-- An extension of former rows is found in other ones by its number.
+abbrev pub found_again : (before after : TableRows) → ExtensionRow → ExtensionRow
+found_again before after x = placed after (record { message = x.message; number = number_of_row (slice_get (places.fields_at before x.message) x.field) })
+
+-- The one at a place.
+abbrev pub again_at : (before after : TableRows) → List ExtensionRow → ℕ → ExtensionRow
+again_at before after xs i = unwrap_or (option_map (found_again before after) (slice_get xs i)) (record { message = 0; field = 0 })
+
+-- The items at the places are made anew, each by its place.
+abbrev pub made_anew : {X : Type 0} → (ℕ → X) → List ℕ → List X → List X
+made_anew make [] xs = xs
+made_anew make (i ∷ places) xs = made_anew make places (slice_set xs i (make i))
+
 -- ALL OF IT
 
-pub record IsOutlineOf (outline : Outline) (protos : List FileDescriptorProto) (rows : FlatRows) : Type 0 where
-  pub files : map file_table_row outline.files.items ≡ each_from (linked_file (file_names protos) rows) 0 protos
-  pub inner : AreInner outline.inner rows
-  pub enums : map enum_lists_row outline.enums.items ≡ map enum_lists rows.enums
-  pub extensions : map extended_row outline.extensions.items ≡ map (extended (links_of rows)) rows.extensions
-  pub services : map service_table_row outline.services.items ≡ map (linked_service (links_of rows)) rows.services
-  pub by_name : sorted_row outline.by_name ≡ sorted_places protos rows
+-- What added files give to the catalog of the pool and of these, but for what takes the rows of both.
+pub record IsOutlineOf (outline : Outline) (base : Base) (added : List FileDescriptorProto) (new : FlatRows) : Type 0 where
+  pub files : map file_table_row outline.files ≡ (catalog_below base).files ++ each_from (added_file (file_names (files_below base ++ added)) (rows_below base) new) (length (files_below base)) added
+  pub inner : AreInner outline.inner (rows_below base) new
+  pub further : AreFurther outline.further.items (rows_below base) new
+  pub enums : map enum_lists_row outline.enums ≡ (catalog_below base).enums ++ map enum_lists new.enums
+  pub extensions : map extended_row outline.extensions.items ≡ map (extended (links_of (all_rows base new))) new.extensions
+  pub services : map service_table_row outline.services ≡ (catalog_below base).services ++ map (linked_service (links_of (all_rows base new))) new.services
+  pub by_name : sorted_row outline.by_name ≡ grown_sorted (files_below base) added (rows_below base) new (catalog_below base).by_name

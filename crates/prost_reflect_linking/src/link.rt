@@ -1,6 +1,6 @@
 //! Linking: the tables that files in flat lists give.
 
-ghost use Rattle.std.specs.Prelude.{◌≡◌, ◌<◌, length, IfOk, OnOk, map, option_map, true, false};
+ghost use Rattle.std.specs.Prelude.{◌≡◌, ◌<◌, ◌≤◌, ◌+◌, ◌⊎◌, ℕ, None, Some, IfSome, length, IfOk, OnOk, map, option_map, true, false};
 ghost use Rattle.std.specs.List.{list_all};
 ghost use Rattle.std.specs.List.Sorted.{IsNonDecreasingBy};
 ghost use Rattle.prost_reflect_wire.specs.Scalar.{in_i32};
@@ -8,16 +8,24 @@ ghost use Rattle.prost_reflect_tables.specs.Rows.{boxed_scalar, written_scalar, 
 ghost use Rattle.prost_reflect_tables.specs.declared.tables.FieldTable.{FieldTable};
 ghost use Rattle.prost_reflect_tables.specs.FlatViews.{definition_row, flat_rows};
 ghost use Rattle.prost_reflect_tables.specs.FlatViews as flat_views;
-ghost use Rattle.prost_reflect_tables.specs.Linking.{natural_or_zero, place_in, is_message, is_packable, cardinality_of_label, linked_packed, linked_presence, linked_identity, linked_field, in_order, declared_fields, oneof_place, member_place, oneofs_from, linked_message, linked_value, linked_enum, linked_rows, links_of};
+ghost use Rattle.prost_reflect_tables.specs.Linking.{natural_or_zero, place_in, is_message, is_packable, cardinality_of_label, linked_packed, linked_presence, linked_identity, linked_field, in_order, declared_fields, oneof_place, member_place, oneofs_from, linked_message, linked_value, linked_enum, links_of};
 ghost use Rattle.prost_reflect_tables.specs.EntryFaults.{is_entry};
 ghost use Rattle.prost_reflect_tables.specs.InRange.{enum_in_range, in_range};
 ghost use Rattle.prost_reflect_linking.specs.Meanings.{AreMeaningsOf, all_meant, field_meant, meaning_lists, meaning_row, meant, messages_meant};
 ghost use Rattle.prost_reflect_tables.specs.Resolved.{resolve};
 ghost use Rattle.std.specs.List.{zip};
-ghost use Rattle.prost_reflect_tables.specs.Indexing.{empty_lists, with_item, grouped, list_rows, messages_with};
+ghost use Rattle.prost_reflect_base.specs.Below.{rows_below, tables_below};
+ghost use Rattle.prost_reflect_growth.specs.RowsGrow.{grown_rows};
+ghost use Rattle.prost_reflect_resolving.specs.Indexed.{all_rows};
+ghost use Rattle.prost_reflect_shared.specs.Items.{items_of};
+ghost use Rattle.prost_reflect_tables.specs.Indexing.{empty_lists, with_item, grouped, list_rows};
 
+use crate::grown::{grown_messages, listed_count};
 use crate::identity::{json_name, lent_identity, linked_identity};
 use crate::meaning::Meaning;
+use prost_reflect_base::Base;
+use prost_reflect_growth::sort_by_number;
+use prost_reflect_shared::shared_list::SharedList;
 use prost_reflect_tables::{
     Cardinality, Definition, EnumTable, EnumValueTable, FieldTable, Flat, FlatEnum, FlatMessage,
     MessageTable, OneofTable, TableKind, WrittenDefault, bool_option, is_packable, natural_or_zero,
@@ -174,29 +182,48 @@ pub fn add_item<T: Drop>(
     Ok(())
 }
 
-/// Adds each extension to the list of the message that it extends.
+/// Where the list of a place stands among so many lists, the first of which is that of the place `first`, or none where it has no
+/// list.
+fn offset_of(place: Option<usize>, first: usize, count: usize) -> Option<usize>
+    ensures there { IfSome result (λ k. (k < count) × (place ≡ Some (first + k))) }
+    ensures outside { result ≡ None → (p : ℕ) → place ≡ Some p → (p < first) ⊎ (first + count ≤ p) }
+{
+    let offset = place?.checked_sub(first)?;
+    if offset < count { Some(offset) } else { None }
+}
+
+/// Adds each extension to the list of the message that it extends, if there is one. The first list is that of the message at the
+/// place `first`.
 fn add_extensions(
     alloc: Global,
+    first: usize,
     lists: &mut Vec<Vec<FieldTable>>,
     definitions: &[Definition<FieldDescriptorProto>],
     meanings: &[Meaning],
 ) -> Result<(), AllocError>
-    ensures { OnOk result (list_rows lists.new.items ≡ grouped (λ p. p.1.extendee) (field_meant true) (zip (map definition_row definitions.now) (map meaning_row meanings.now)) 0 (list_rows lists.old.items)) }
+    ensures { OnOk result (list_rows lists.new.items ≡ grouped (λ p. p.1.extendee) (field_meant true) (zip (map definition_row definitions.now) (map meaning_row meanings.now)) first (list_rows lists.old.items)) }
 {
     for (definition, meaning) in definitions.iter().zip(meanings) {
-        let field = linked_field(alloc, true, definition, meaning)?;
-        add_item(lists, meaning.extendee, field)?;
+        if let Some(offset) = offset_of(meaning.extendee, first, lists.len()) {
+            lists[offset].push(linked_field(alloc, true, definition, meaning)?)?;
+        }
     }
     Ok(())
 }
 
-/// Puts fields in ascending order of their numbers; those of one number stay in their order.
-fn sort_by_number(fields: &mut Vec<FieldTable>) -> Result<(), AllocError>
-    ensures sorted { OnOk result (map field_row fields.new.items ≡ in_order (map field_row fields.old.items)) }
-    ensures rising { OnOk result (IsNonDecreasingBy (λ f. f.number) fields.new.items) }
+/// The extensions of each of so many messages, the first of which is at the place `first`.
+fn extended(
+    alloc: Global,
+    first: usize,
+    count: usize,
+    definitions: &[Definition<FieldDescriptorProto>],
+    meanings: &[Meaning],
+) -> Result<Vec<Vec<FieldTable>>, AllocError>
+    ensures { IfOk result (λ v. list_rows v.items ≡ grouped (λ p. p.1.extendee) (field_meant true) (zip (map definition_row definitions.now) (map meaning_row meanings.now)) first (empty_lists count)) }
 {
-    fields.sort_by_key(|field| field.number)?;
-    Ok(())
+    let mut lists = empty_lists(alloc, count)?;
+    add_extensions(alloc, first, &mut lists, definitions, meanings)?;
+    Ok(lists)
 }
 
 /// The place of a field among fields in ascending order of their numbers: how many have a smaller number.
@@ -357,30 +384,38 @@ fn linked_enums(alloc: Global, enums: &[FlatEnum]) -> Result<Vec<EnumTable>, All
     Ok(tables)
 }
 
-/// The message types and enums that files in flat lists give.
+/// The message types and enums of a pool and of added files in flat lists.
 ///
-/// What the texts of their fields mean was looked up by `check_files`, and `meanings` and `meanings_by_message` have it. Messages
-/// and enums keep their places. The flat lists and the meanings are let go message by message, so that they do not stand beside
-/// all rows. The cost grows as n log n in the number of definitions.
+/// What the texts of the added fields mean was looked up before the checks, and `meanings` and `meanings_by_message` have it. What
+/// the pool has stays shared, but for messages that added extensions extend: these get a row of their own. The flat lists and the
+/// meanings are let go message by message, so that they do not stand beside all rows. The cost grows as n log n in the number of
+/// added definitions; beside it stands a count for each 64 rows of the pool, and, where its messages are extended, one for each.
 ///
 /// # Errors
 ///
 /// `AllocError` if out of memory.
 pub fn linked(
     alloc: Global,
+    base: Base,
     flat: Flat,
     fields: Vec<Vec<Meaning>>,
     extensions: &[Meaning],
     entries: &[bool],
-) -> Result<(Vec<MessageTable>, Vec<EnumTable>), AllocError>
-    requires fields { AreMeaningsOf fields.items (flat_rows flat) }
-    requires extensions { map meaning_row extensions.now ≡ map meant (map (resolve (links_of (flat_rows flat))) (flat_rows flat).extensions) }
+) -> Result<(SharedList<MessageTable>, SharedList<EnumTable>), AllocError>
+    requires fields { AreMeaningsOf fields.items (links_of (all_rows base (flat_rows flat))) (flat_rows flat) }
+    requires extensions { map meaning_row extensions.now ≡ map meant (map (resolve (links_of (all_rows base (flat_rows flat)))) (flat_rows flat).extensions) }
     requires entries { entries.now ≡ map is_entry (flat_rows flat).messages }
-    ensures rows { IfOk result (λ x. rows_from x.0.items x.1.items ≡ linked_rows (flat_rows flat.entry)) }
-    ensures range { IfOk result (λ x. in_range (rows_from x.0.items x.1.items) ≡ true) }
+    ensures rows { IfOk result (λ x. rows_from (items_of x.0) (items_of x.1) ≡ grown_rows (rows_below base.entry) (flat_rows flat.entry) (tables_below base.entry)) }
+    ensures range { IfOk result (λ x. in_range (rows_from (items_of x.0) (items_of x.1)) ≡ true) }
 {
-    let mut lists = empty_lists(alloc, flat.messages.len())?;
-    add_extensions(alloc, &mut lists, flat.extensions.as_slice(), extensions)?;
-    let messages = linked_messages(alloc, flat.messages, lists, fields, entries)?;
-    Ok((messages, linked_enums(alloc, flat.enums.as_slice())?))
+    let count = base.message_count();
+    let listed = listed_count(count, extensions);
+    let definitions = flat.extensions.as_slice();
+    let front = extended(alloc, count - listed, listed, definitions, extensions)?;
+    let added = extended(alloc, count, flat.messages.len(), definitions, extensions)?;
+    let mut messages = grown_messages(alloc, base, front)?;
+    messages.append(linked_messages(alloc, flat.messages, added, fields, entries)?)?;
+    let mut enums = base.pool().tables().enums.clone()?;
+    enums.append(linked_enums(alloc, flat.enums.as_slice())?)?;
+    Ok((messages, enums))
 }

@@ -2,9 +2,10 @@
 
 ghost use Rattle.std.specs.Prelude.{◌≡◌, IfOk, map};
 ghost use Rattle.prost_reflect_linking.specs.Meanings.{meaning_row, meaning_lists, meant};
-ghost use Rattle.prost_reflect_tables.specs.Resolved.{resolved_lists, resolved_row};
+ghost use Rattle.prost_reflect_resolving.specs.Resolved.{resolved_lists, resolved_row};
 
-use prost_reflect_tables::{ResolvedField, TableKind, WrittenDefault};
+use prost_reflect_resolving::ResolvedField;
+use prost_reflect_tables::{TableKind, WrittenDefault};
 use std::alloc::{AllocError, Global};
 
 /// What the texts of a field mean.

@@ -10,7 +10,8 @@ ghost use Rattle.prost_reflect_tables.specs.Orders.{text_at, by_text, number_at,
 use std::alloc::{AllocError, Global};
 use std::cmp::Ordering;
 
-fn text_at<'f>(texts: &[&'f str], place: usize) -> &'f str
+/// The text at a place, empty where none stands there.
+pub fn text_at<'f>(texts: &[&'f str], place: usize) -> &'f str
     ensures { result.now ≡ text_at (text_list texts.now) place }
 {
     match texts.get(place) {

@@ -26,24 +26,25 @@ pub use Rattle.prost_reflect_tables.specs.Checked.{Checked}
 pub use Rattle.prost_reflect_tables.specs.Faults.{enum_names, file_names, message_names, names_in_enums, names_in_messages, names_in_services, names_of, repeats}
 pub use Rattle.prost_reflect_tables.specs.Flat.{DefinitionRow, FlatEnumRow, FlatMessageRow, FlatRows, FlatServiceRow, Given, Placed, ScopeRow, all_from, defined, defined_from, enum_at, enums_from, field_name, file_at, file_scope, files_from, flattened, inside, message_parts, message_step, method_name, oneof_name, own_message, service_at, services_from, value_name}
 unfoldable pub use Rattle.prost_reflect_tables.specs.Flat.{message_at}
-pub use Rattle.prost_reflect_tables.specs.Gathered.{all_places, places_from, places_where}
+pub use Rattle.prost_reflect_tables.specs.Gathered.{all_pairs, all_places, list_at, pairs_at, pairs_from, places_from, places_where}
 pub use Rattle.prost_reflect_tables.specs.Linked.{is_linked}
 pub use Rattle.prost_reflect_tables.specs.LinkedCatalog.{each_from, enum_lists, field_names, json_names, linked_catalog, linked_extension, linked_lists, linked_method, linked_service, ordered, own_fields, value_names}
 unfoldable pub use Rattle.prost_reflect_tables.specs.LinkedCatalog.{IsCatalogOf}
 pub use Rattle.prost_reflect_tables.specs.Linking.{Links, belonging, declared_fields, extended_place, fields_of_message, in_order, is_place, linked_enum, linked_oneof, linked_rows, linked_value, links_of, messages_from, oneof_place, oneofs_from, put_in_order, value_number}
 unfoldable pub use Rattle.prost_reflect_tables.specs.Linking.{linked_field, linked_message}
 pub use Rattle.prost_reflect_tables.specs.Names.{bracketed, text_or_empty}
-pub use Rattle.prost_reflect_tables.specs.Orders.{by_number, by_text, number_at, put_by, sorted_by, text_at}
+pub use Rattle.prost_reflect_tables.specs.Orders.{by_number, by_text, number_at, put_by, sorted_by, text_at, text_before, text_in}
 pub use Rattle.prost_reflect_tables.specs.Places.{fields_at, fields_or_none, is_declared_at, place_of, row_of}
 pub use Rattle.prost_reflect_tables.specs.Rows.{EnumRow, EnumValueRow, FieldRow, MessageRow, OneofRow, TableRows, enum_row, enum_value_row, field_row, message_row, oneof_row, rows_from}
 pub use Rattle.prost_reflect_tables.specs.declared.error.PoolError.{PoolError}
 pub use Rattle.prost_reflect_tables.proofs.Built.{checked_of, linked_of, none_built}
 pub use Rattle.prost_reflect_tables.proofs.CatalogLinks.{ExtensionThere, HasRow, ImportsThere, MethodThere, extension_there, fields_shown, imports_there, mapped_at, marked_extension, methods_there}
-pub use Rattle.prost_reflect_tables.proofs.CatalogRanges.{CatalogWithin, EnumListsWithin, EnumRowWithin, FileRowWithin, IdentityWithin, ListsWithin, MessageRowWithin, ServiceRowWithin, catalog_within, field_within, holds_at, in_order_all}
+pub use Rattle.prost_reflect_tables.proofs.CatalogRanges.{CatalogWithin, EnumListsWithin, EnumRowWithin, FileRowWithin, IdentityWithin, IsInside, ListsWithin, MessageRowWithin, ServiceRowWithin, catalog_within, field_within, holds_at, in_order_all, pairs_inside, values_linked}
 pub use Rattle.prost_reflect_tables.proofs.Keeping.{field_keeps, fields_ascend, passes_at}
+pub use Rattle.prost_reflect_tables.proofs.TextsAt.{no_text, no_texts, text_there, texts_there}
 pub use Rattle.prost_reflect_pool.specs.Enums.{values_at, values_or_none}
 unfoldable pub use Rattle.prost_reflect_pool.specs.FileNames.{names_differ}
-pub use Rattle.prost_reflect_pool.specs.Lookups.{extending_or_none, extension_name, extension_place, extension_where, full_name_or_empty, numbered_value}
+pub use Rattle.prost_reflect_pool.specs.Lookups.{extending_or_none, extension_name, extension_place, extension_where, full_name_or_empty, numbered_value, value_place, value_places}
 pub use Rattle.prost_reflect_pool.specs.PoolEquality.{contents_decide}
 unfoldable pub use Rattle.prost_reflect_pool.specs.PoolEquality.{contents_eq}
 pub use Rattle.prost_reflect_pool.specs.Pools.{IsPoolOf, IsPoolOfBytes, MakesAgain, Reads, Refuses, RefusesFiles, RefusesRead, files_of, pool_catalog, pool_contents, pool_rows}

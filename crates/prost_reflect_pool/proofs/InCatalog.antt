@@ -1,20 +1,11 @@
 -- What the catalog of linked tables puts in order, by the rows of the tables.
 use Rattle.std.specs.Prelude.{◌≡◌, ◌+◌, ◌<◌, ◌≤◌, ◌∷◌}
-use Rattle.prost_reflect_pool.proofs.Common.{ℕ, zero, suc, true, List, [], map, length, get_or, Option, Some, None, refl, sym, ap, subst, ◌∙◌, arith, slice_get, unwrap_or, option_map, same_Some, slice_get-map, slice_get-get_or, slice_get_past, FileDescriptorProto, FieldDescriptorProto, FieldRow, MessageRow, EnumRow, EnumValueRow, TableRows, DefinitionRow, FlatMessageRow, FlatEnumRow, flattened, text_or_empty, file_names, message_names, enum_names, Links, links_of, linked_message, messages_from, linked_field, linked_value, linked_enum, value_number, linked_rows, MessageListsRow, EnumListsRow, ServiceRow, CatalogRows, catalog_row, IsCatalogOf, each_from, linked_lists, enum_lists, linked_extension, linked_service, value_names, field_names, json_names, own_fields, ordered, is_linked, text_at, number_at, by_text, by_number, all_places, fields_or_none, fields_at, values_or_none, values_at, full_name_or_empty, extension_name, extension_there, ℤ, pos}
+use Rattle.prost_reflect_pool.proofs.Common.{ℕ, zero, suc, true, List, [], map, length, get_or, Option, Some, None, refl, sym, ap, subst, ◌∙◌, arith, slice_get, unwrap_or, option_map, same_Some, slice_get-map, slice_get-get_or, slice_get_past, FileDescriptorProto, FieldDescriptorProto, FieldRow, MessageRow, EnumRow, EnumValueRow, TableRows, DefinitionRow, FlatMessageRow, FlatEnumRow, flattened, text_or_empty, file_names, message_names, enum_names, names_of, Links, links_of, linked_message, messages_from, linked_field, linked_value, linked_enum, value_number, linked_rows, MessageListsRow, EnumListsRow, ServiceRow, CatalogRows, catalog_row, IsCatalogOf, each_from, linked_lists, enum_lists, linked_extension, linked_service, value_names, field_names, json_names, own_fields, ordered, is_linked, number_at, sorted_by, text_before, text_in, by_text, by_number, all_places, fields_or_none, fields_at, values_or_none, values_at, full_name_or_empty, extension_name, extension_there, value_places, values_linked, ℤ, pos}
 use Rattle.prost_reflect_tables.specs.declared.catalog.Catalog.{Catalog}
 use Rattle.prost_reflect_tables.specs.Built.{AreTablesOf}
+use Rattle.prost_reflect_tables.specs.LinkedCatalog.{value_places as flat_places}
 
--- TEXTS OF ROWS
-
-pub text_there : {X Y : Type 0} (row : X → Y) (text : Y → List ℕ) (xs ys : List X) (i : ℕ) (x : X) → ys ≡ xs → i < length ys → x ≡ get_or ys i x → text (row x) ≡ text_at (map text (map row xs)) i
-text_there {X} row text xs ys i x e h is =
-    let at : slice_get xs i ≡ Some x = ap (λ (zs : List X). slice_get zs i) (sym e) ∙ (slice_get-get_or ys i x h ∙ ap Some (sym is)) in
-    sym (ap (λ o. unwrap_or o []) (slice_get-map text (map row xs) i ∙ ap (option_map text) (slice_get-map row xs i ∙ ap (option_map row) at)))
-
-pub no_text : {X Y : Type 0} (row : X → Y) (text : Y → List ℕ) (xs ys : List X) (i : ℕ) → ys ≡ xs → length ys ≤ i → [] ≡ text_at (map text (map row xs)) i
-no_text {X} row text xs ys i e h =
-    let none : slice_get xs i ≡ None = ap (λ (zs : List X). slice_get zs i) (sym e) ∙ slice_get_past ys i h in
-    sym (ap (λ o. unwrap_or o []) (slice_get-map text (map row xs) i ∙ ap (option_map text) (slice_get-map row xs i ∙ ap (option_map row) none)))
+-- NUMBERS OF ROWS
 
 pub number_there : {X Y : Type 0} (row : X → Y) (number : Y → ℤ) (xs : List X) (i : ℕ) (x : X) → i < length xs → x ≡ get_or xs i x → number (row x) ≡ number_at (map number (map row xs)) i
 number_there {X} row number xs i x h is =
@@ -29,7 +20,7 @@ no_number row number xs i h = sym (ap (λ o. unwrap_or o (pos 0)) (slice_get-map
 abbrev pub message_name : MessageRow → List ℕ
 message_name m = m.id.full_name
 
-linked_names : (links : Links) (extensions : List (DefinitionRow FieldDescriptorProto)) (T : ℕ) (ms : List FlatMessageRow) → map message_name (messages_from links extensions T ms) ≡ map (λ m. m.definition.full_name) ms
+pub linked_names : (links : Links) (extensions : List (DefinitionRow FieldDescriptorProto)) (T : ℕ) (ms : List FlatMessageRow) → map message_name (messages_from links extensions T ms) ≡ map (λ m. m.definition.full_name) ms
 unfolding linked_message
 linked_names links extensions T [] = refl
 linked_names links extensions T (m ∷ ms) = ap (λ names. m.definition.full_name ∷ names) (linked_names links extensions (T + 1) ms)
@@ -47,7 +38,7 @@ enum_name e = e.id.full_name
 abbrev pub service_name : ServiceRow → List ℕ
 service_name s = s.id.full_name
 
-map_twice : {X Y Z : Type 0} (f : Y → Z) (g : X → Y) (xs : List X) → map f (map g xs) ≡ map (λ x. f (g x)) xs
+pub map_twice : {X Y Z : Type 0} (f : Y → Z) (g : X → Y) (xs : List X) → map f (map g xs) ≡ map (λ x. f (g x)) xs
 map_twice f g [] = refl
 map_twice f g (x ∷ xs) = ap (λ l. f (g x) ∷ l) (map_twice f g xs)
 
@@ -70,6 +61,30 @@ file_name f = text_or_empty f.name
 pub file_order : (files : List FileDescriptorProto) (catalog : Catalog) → IsCatalogOf files catalog → catalog.by_name.files.items ≡ ordered (file_names files)
 unfolding IsCatalogOf
 file_order files catalog listed = ap (λ (c : CatalogRows). c.by_name.files) listed
+
+abbrev pub value_full_name : EnumValueRow → List ℕ
+value_full_name v = v.id.full_name
+
+-- Those of the values of each enum.
+abbrev pub value_full_names : List EnumRow → List (List (List ℕ))
+value_full_names enums = map (λ (e : EnumRow). map value_full_name e.values) enums
+
+names_linked : (enums : List FlatEnumRow) → value_full_names (map linked_enum enums) ≡ map (λ (e : FlatEnumRow). names_of e.values) enums
+names_linked [] = refl
+names_linked (e ∷ enums) =
+    ap (λ (names : List (List ℕ)). names ∷ value_full_names (map linked_enum enums)) (map_twice value_full_name linked_value e.values)
+    ∙ ap (λ (lists : List (List (List ℕ))). names_of e.values ∷ lists) (names_linked enums)
+
+pub value_order : (files : List FileDescriptorProto) (rows : TableRows) (catalog : Catalog) → AreTablesOf files rows → IsCatalogOf files catalog → catalog.by_name.values.items ≡ sorted_by (text_before (text_in (value_full_names rows.enums))) (value_places rows)
+unfolding IsCatalogOf
+value_order files rows catalog built listed =
+    let flat = flattened files in
+    let linked : rows.enums ≡ map linked_enum flat.enums = ap (λ (r : TableRows). r.enums) built.1 in
+    let names : value_full_names rows.enums ≡ map (λ (e : FlatEnumRow). names_of e.values) flat.enums = ap value_full_names linked ∙ names_linked flat.enums in
+    let places : value_places rows ≡ flat_places flat = values_linked rows flat linked in
+    ap (λ (c : CatalogRows). c.by_name.values) listed
+    ∙ (ap (λ (ps : List (ℕ × ℕ)). sorted_by (text_before (text_in (map (λ (e : FlatEnumRow). names_of e.values) flat.enums))) ps) (sym places)
+    ∙ ap (λ (ns : List (List (List ℕ))). sorted_by (text_before (text_in ns)) (value_places rows)) (sym names))
 
 -- FIELDS
 

@@ -140,8 +140,8 @@ key_tied R o key w x y e f =
     is_equal Equal e = refl
     is_equal Greater e = absurd (true≢false (sym e))
 
--- What is found among places in the order of their keys.
-pub key_found : {K : Type 0} (R : K → K → Ordering) → IsTotalOrder R → (key : ℕ → K) (w : K) (own places : List ℕ) (r : Option ℕ) → places ≡ sorted_by (λ i j. is_lt (R (key i) (key j))) own →
+-- What is found among items in the order of their keys.
+pub key_found : {X K : Type 0} (R : K → K → Ordering) → IsTotalOrder R → (key : X → K) (w : K) (own places : List X) (r : Option X) → places ≡ sorted_by (λ i j. is_lt (R (key i) (key j))) own →
     (IsNonDecreasingBy (λ p. ordering_index (R (key p) w)) places → r ≡ find (λ p. is_eq (R (key p) w)) places) → r ≡ find (λ p. is_eq (R (key p) w)) own
 key_found R o key w own places r e h =
     let up : IsNonDecreasingBy (λ p. ordering_index (R (key p) w)) places =

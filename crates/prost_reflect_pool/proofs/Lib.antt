@@ -1,6 +1,6 @@
 mod Common
 mod PathWalks
-mod RecordPaths
+pub mod RecordPaths
 mod NamedRecords
 mod NoFiles
 pub mod OneFile
@@ -8,9 +8,10 @@ pub mod PoolLinks
 pub mod FileNames
 mod Searching
 mod InOrder
-mod InCatalog
+pub mod InCatalog
+mod ValuePlaces
 pub mod ExtensionPlaces
-mod UniqueNames
+pub mod UniqueNames
 mod ExtensionLookups
 mod OwnEncoding
 pub mod EqualDescriptors

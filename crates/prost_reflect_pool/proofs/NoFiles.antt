@@ -14,8 +14,8 @@ pub none_linked : (messages : List MessageTable) (enums : List EnumTable) → me
 unfolding schema_from
 none_linked messages enums m e = rw (m, e) refl
 
-pub none_listed : (files : Vec FileTable Global) (messages : Vec MessageLists Global) (enums : Vec EnumLists Global) (extensions : Vec ExtensionTable Global) (services : Vec ServiceTable Global) (f2 m2 e2 x2 s2 : Vec ℕ Global) →
-    files.items ≡ [] → messages.items ≡ [] → enums.items ≡ [] → extensions.items ≡ [] → services.items ≡ [] → f2.items ≡ [] → m2.items ≡ [] → e2.items ≡ [] → x2.items ≡ [] → s2.items ≡ [] →
-    IsCatalogOf [] (record { files = files; messages = messages; enums = enums; extensions = extensions; services = services; by_name = record { files = f2; messages = m2; enums = e2; extensions = x2; services = s2 } })
+pub none_listed : (files : List FileTable) (messages : List MessageLists) (enums : List EnumLists) (extensions : List ExtensionTable) (services : List ServiceTable) (f2 m2 e2 x2 s2 : Vec ℕ Global) (v2 : Vec (ℕ × ℕ) Global) →
+    files ≡ [] → messages ≡ [] → enums ≡ [] → extensions ≡ [] → services ≡ [] → f2.items ≡ [] → m2.items ≡ [] → e2.items ≡ [] → x2.items ≡ [] → s2.items ≡ [] → v2.items ≡ [] →
+    IsCatalogOf [] (record { files = files; messages = messages; enums = enums; extensions = extensions; services = services; by_name = record { files = f2; messages = m2; enums = e2; extensions = x2; services = s2; values = v2 } })
 unfolding IsCatalogOf
-none_listed files messages enums extensions services f2 m2 e2 x2 s2 a b c d e f g h i j = rw (a, b, c, d, e, f, g, h, i, j) refl
+none_listed files messages enums extensions services f2 m2 e2 x2 s2 v2 a b c d e f g h i j k = rw (a, b, c, d, e, f, g, h, i, j, k) refl

@@ -1,5 +1,5 @@
 -- What the catalog of a pool names is there.
-use Rattle.std.specs.Prelude.{◌≡◌, ◌<◌}
+use Rattle.std.specs.Prelude.{◌≡◌, ◌<◌, ◌≤◌, ◌∷◌, [], zero, suc}
 use Rattle.prost_reflect_pool.proofs.Common.{ℕ, true, List, Option, None, Some, length, map, get_or, refl, sym, ap, ◌∙◌, subst, arith, slice_get, option_map, All, list_all, length-map, same_Some, slice_get-get_or, slice_get-map, slice_get_read, get_or_from_slice_get, FileRow, ExtensionRow, method_table_row, service_table_row, links_of, linked_field, flattened, fields_at, fields_or_none, is_declared_at, FieldRow, OneofRow, MessageRow, passes_at, ExtensionThere, extension_there, marked_extension, MethodThere, methods_there, ImportsThere, imports_there, files_of, pool_rows, pool_catalog, oneofs_at, oneofs_or_none, LinkedPool}
 use Rattle.prost_reflect_tables.specs.declared.catalog.MethodTable.{MethodTable}
 use Rattle.prost_reflect_tables.specs.declared.catalog.ServiceTable.{ServiceTable}
@@ -42,3 +42,10 @@ methods_of pool i s at = of_rows (MethodThere (pool_rows pool)) method_table_row
 
 pub imports_of : (pool : LinkedPool) (i : ℕ) (f : FileRow) → slice_get (pool_catalog pool).files i ≡ Some f → ImportsThere (files_of pool) f
 imports_of pool i f at = imports_there (files_of pool) (pool_rows pool) pool.catalog i f pool.built pool.listed at
+
+-- PLACES BEHIND A LIST
+
+pub nothing_past : {X : Type 0} (xs : List X) (k : ℕ) → slice_get xs k ≡ None → length xs ≤ k
+nothing_past [] k none = omega arith
+nothing_past (x ∷ xs) zero none = absurd cc
+nothing_past (x ∷ xs) (suc k) none = let rest = nothing_past xs k none in omega arith

@@ -35,13 +35,13 @@ once before (m ∷ names) (suc i) (suc j) n h at there = ap suc (once (before ++
 
 -- PARTS OF A LIST
 
-front_alone : (before xs ys : List (List ℕ)) → repeats before (xs ++ ys) ≡ false → repeats before xs ≡ false
+pub front_alone : (before xs ys : List (List ℕ)) → repeats before (xs ++ ys) ≡ false → repeats before xs ≡ false
 front_alone before [] ys h = refl
 front_alone before (x ∷ xs) ys h =
     let parts = head_parts before (xs ++ ys) x h in
     or_from (list_any (bytes_eq x) before) (repeats (before ++ x ∷ []) xs) parts.0 (front_alone (before ++ x ∷ []) xs ys parts.1)
 
-back_alone : (before xs ys : List (List ℕ)) → repeats before (xs ++ ys) ≡ false → repeats (before ++ xs) ys ≡ false
+pub back_alone : (before xs ys : List (List ℕ)) → repeats before (xs ++ ys) ≡ false → repeats (before ++ xs) ys ≡ false
 back_alone before [] ys h = ap (λ l. repeats l ys) (append-nil before) ∙ h
 back_alone before (x ∷ xs) ys h =
     ap (λ l. repeats l ys) (sym (append_assoc before (x ∷ []) xs)) ∙ back_alone (before ++ x ∷ []) xs ys (head_parts before (xs ++ ys) x h).1

@@ -1,5 +1,5 @@
 -- What is looked up in a pool by its name or number: the first place of the list in which it stands.
-use Rattle.std.specs.Prelude.{ℕ, ℤ, Bool, not, ◌&&◌, List, [], Option, None, Some, find, position, slice_get}
+use Rattle.std.specs.Prelude.{ℕ, ℤ, Bool, not, ◌&&◌, List, [], Option, None, Some, find, map, position, slice_get}
 use Rattle.std.specs.Ordering.{int_eq}
 use Rattle.std.specs.Str.{bytes_eq}
 use Rattle.prost_reflect_types.specs.declared.FileDescriptorProto.{FileDescriptorProto}
@@ -8,6 +8,8 @@ use Rattle.prost_reflect_tables.specs.Names.{text_or_empty}
 use Rattle.prost_reflect_tables.specs.Rows.{FieldRow, EnumValueRow, TableRows}
 use Rattle.prost_reflect_tables.specs.Places.{fields_at}
 use Rattle.prost_reflect_tables.specs.CatalogRows.{MessageListsRow, ExtensionRow, CatalogRows}
+use Rattle.prost_reflect_tables.specs.Gathered.{all_pairs}
+use Rattle.prost_reflect_pool.specs.Enums.{values_at}
 use Rattle.prost_reflect_pool.specs.Pools.{pool_catalog}
 use Rattle.prost_reflect_pool.specs.Listed.{extension_row_at}
 use Rattle.prost_reflect_pool.specs.declared.pool.LinkedPool.{LinkedPool}
@@ -61,3 +63,11 @@ named_value values name = position (λ v. bytes_eq v.id.name name) values
 -- Of values with one number this is the one that is declared first.
 abbrev pub numbered_value : List EnumValueRow → ℤ → Option ℕ
 numbered_value values number = position (λ v. int_eq v.number number) values
+
+-- The values of all enums, each as the place of its enum and its place among the values of that enum, by enum and then by declaration.
+abbrev pub value_places : TableRows → List (ℕ × ℕ)
+value_places rows = all_pairs (map (λ e. e.values) rows.enums)
+
+-- The first of them whose row has the full name. Full names of values stand in the scope around their enum.
+abbrev pub value_place : TableRows → List ℕ → Option (ℕ × ℕ)
+value_place rows full_name = find (λ p. passes (slice_get (values_at rows p.0) p.1) (λ v. bytes_eq v.id.full_name full_name)) (value_places rows)

@@ -130,6 +130,7 @@ impl LinkedPool {
         ensures enums { All (λ i. i < length (pool_rows self.now).enums) result.now.enums.items }
         ensures extensions { All (λ i. i < length (pool_catalog self.now).extensions) result.now.extensions.items }
         ensures services { All (λ i. i < length (pool_catalog self.now).services) result.now.services.items }
+        ensures values { All (λ p. p.1 < length (values_at (pool_rows self.now) p.0)) result.now.values.items }
     {
         &self.catalog.by_name
     }

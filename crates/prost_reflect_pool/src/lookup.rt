@@ -1,19 +1,21 @@
 //! Places of definitions by their names and numbers, found by binary search in the catalog.
 
-ghost use Rattle.std.specs.Prelude.{◌≡◌, ◌<◌, ◌==◌, ℕ, IfSome, find, length, map};
+ghost use Rattle.std.specs.Prelude.{◌≡◌, ◌<◌, ◌==◌, IfSome, find, length, map};
+ghost use Rattle.std.specs.List.{list_any};
+ghost use Rattle.std.specs.Option.{is_some};
 ghost use Rattle.std.specs.Str.{bytes_eq};
 ghost use Rattle.std.specs.Ordering.{is_eq, ordering_index};
 ghost use Rattle.std.specs.declared.cmp.Ordering.{Ordering};
 ghost use Rattle.std.specs.List.Sorted.{IsNonDecreasingBy};
 ghost use Rattle.prost_reflect_tables.specs.Walks.{Computes};
 ghost use Rattle.prost_reflect_tables.specs.LinkedCatalog.{field_names, json_names, own_fields, ordered};
-ghost use Rattle.prost_reflect_tables.specs.Orders.{text_at, number_at, by_text, by_number};
+ghost use Rattle.prost_reflect_tables.specs.Orders.{text_at, text_in, number_at, by_text, by_number};
 ghost use Rattle.prost_reflect_tables.specs.Gathered.{all_places};
 ghost use Rattle.prost_reflect_tables.specs.Places.{fields_at, message_place};
 ghost use Rattle.prost_reflect_tables.specs.Rows.{field_row, enum_value_row};
 ghost use Rattle.prost_reflect_tables.specs.Faults.{file_names};
 ghost use Rattle.prost_reflect_pool.specs.Enums.{values_at};
-ghost use Rattle.prost_reflect_pool.specs.Lookups.{enum_place, service_place, file_place, extension_name, extension_place, extension_where, named_field, json_named_field, named_value, numbered_value};
+ghost use Rattle.prost_reflect_pool.specs.Lookups.{enum_place, service_place, file_place, extension_name, extension_place, extension_where, named_field, json_named_field, named_value, numbered_value, value_place};
 ghost use Rattle.prost_reflect_pool.specs.Pools.{files_of, pool_rows, pool_catalog};
 
 use crate::LinkedPool;
@@ -22,9 +24,9 @@ use std::cmp::Ordering;
 
 /// The first of the places that compares as equal to what is looked for, where all that compare as less stand before it and all
 /// that compare as greater behind it.
-fn first_equal<C: Fn(&usize) -> Ordering>(places: &[usize], compare: &C) -> Option<usize>
+fn first_equal<T: Copy, C: Fn(&T) -> Ordering>(places: &[T], compare: &C) -> Option<T>
     requires { C.IsAlwaysCallable compare.now }
-    ensures { (order : ℕ → Ordering) → Computes C.Fn compare.now order → IsNonDecreasingBy (λ p. ordering_index (order p)) places.now → result ≡ find (λ p. is_eq (order p)) places.now }
+    ensures { (order : T → Ordering) → Computes C.Fn compare.now order → IsNonDecreasingBy (λ p. ordering_index (order p)) places.now → result ≡ find (λ p. is_eq (order p)) places.now }
 {
     let mut low = 0;
     let mut high = places.len();
@@ -68,6 +70,15 @@ fn value_name(values: &[EnumValueTable], place: usize) -> &str
 {
     match values.get(place) {
         Some(value) => value.id.name.as_str(),
+        None => "",
+    }
+}
+
+fn value_full_name(values: &[EnumValueTable], place: usize) -> &str
+    ensures { result.now ≡ text_at (map (λ v. v.id.full_name) (map enum_value_row values.now)) place }
+{
+    match values.get(place) {
+        Some(value) => value.id.full_name.as_str(),
         None => "",
     }
 }
@@ -142,6 +153,15 @@ impl LinkedPool {
         }
     }
 
+    fn value_name(&self, place: (usize, usize)) -> &str
+        ensures { result.now ≡ text_in (map (λ e. map (λ v. v.id.full_name) e.values) (pool_rows self.now).enums) place }
+    {
+        match self.tables.enums.get(place.0) {
+            Some(declared) => value_full_name(declared.values.as_slice(), place.1),
+            None => "",
+        }
+    }
+
     fn extension_name(&self, place: usize) -> &str
         ensures { result.now ≡ text_at (map (extension_name (pool_rows self.now)) (pool_catalog self.now).extensions) place }
     {
@@ -186,6 +206,17 @@ impl LinkedPool {
     {
         let compare = |place: &usize| self.enum_name(*place).cmp(full_name);
         first_equal(self.catalog.by_name.enums.as_slice(), &compare)
+    }
+
+    /// The place of the enum of the first value of a full name, by enum and then by declaration, and the place of that value in its
+    /// enum, or none where no value has the name. Full names of values stand in the scope around their enum.
+    pub fn value_place(&self, full_name: &str) -> Option<(usize, usize)>
+        ensures found { result ≡ value_place (pool_rows self.now) full_name.now }
+        ensures there { IfSome result (λ p. p.1 < length (values_at (pool_rows self.now) p.0)) }
+        ensures known { is_some result ≡ list_any (λ e. list_any (λ v. bytes_eq full_name.now v.id.full_name) e.values) (pool_rows self.now).enums }
+    {
+        let compare = |place: &(usize, usize)| self.value_name(*place).cmp(full_name);
+        first_equal(self.catalog.by_name.values.as_slice(), &compare)
     }
 
     /// The place of the extension of a full name, or none where no extension has it.

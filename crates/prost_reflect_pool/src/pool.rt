@@ -4,11 +4,13 @@ ghost use Rattle.std.specs.Prelude.{◌≡◌, [], IsTrue};
 ghost use Rattle.prost_reflect_identity.specs.Values.{value_of};
 ghost use Rattle.prost_reflect_types.specs.DescriptorViews.{shared_files};
 ghost use Rattle.prost_reflect_tables.specs.Built.{AreTablesOf};
+ghost use Rattle.prost_reflect_tables.specs.InRange.{in_range};
 ghost use Rattle.prost_reflect_tables.specs.LinkedCatalog.{IsCatalogOf, catalog_prop};
 ghost use Rattle.prost_reflect_tables.specs.Schema.{rows_of};
 ghost use Rattle.prost_reflect_pool.specs.FileNames.{names_differ};
 
 use prost_reflect_identity::Identity;
+use prost_reflect_shared::shared_list::SharedList;
 use prost_reflect_tables::{Catalog, SortedPlaces, Tables};
 use prost_reflect_types::FileDescriptorProto;
 use std::alloc::Global;
@@ -30,6 +32,7 @@ pub struct LinkedPool {
     pub ghost built: { AreTablesOf (shared_files files.items) (rows_of tables) },
     pub ghost listed: { IsCatalogOf (shared_files files.items) catalog } by { catalog_prop (shared_files files.items) catalog },
     pub ghost names: { IsTrue (names_differ (shared_files files.items)) },
+    pub ghost ranged: { IsTrue (in_range (rows_of tables)) },
 }
 
 impl PartialEq for LinkedPool {
@@ -64,8 +67,8 @@ impl LinkedPool {
         ensures { IsPoolOf [] result }
     {
         let tables = Tables {
-            messages: Vec::new(alloc),
-            enums: Vec::new(alloc),
+            messages: SharedList::new(alloc),
+            enums: SharedList::new(alloc),
         };
         let files = Vec::new(alloc);
         let identity = Identity::of(&files);
@@ -82,6 +85,7 @@ impl LinkedPool {
         requires built { AreTablesOf (shared_files files.items) (rows_of tables) }
         requires listed { IsCatalogOf (shared_files files.items) catalog }
         requires names { IsTrue (names_differ (shared_files files.items)) }
+        requires ranged { IsTrue (in_range (rows_of tables)) }
         ensures { files_of result ≡ shared_files files.items }
     {
         let identity = Identity::of(&files);
@@ -125,17 +129,18 @@ fn empty_catalog(alloc: Global) -> Catalog
     ensures { IsCatalogOf [] result }
 {
     Catalog {
-        files: Vec::new(alloc),
-        messages: Vec::new(alloc),
-        enums: Vec::new(alloc),
-        extensions: Vec::new(alloc),
-        services: Vec::new(alloc),
+        files: SharedList::new(alloc),
+        messages: SharedList::new(alloc),
+        enums: SharedList::new(alloc),
+        extensions: SharedList::new(alloc),
+        services: SharedList::new(alloc),
         by_name: SortedPlaces {
             files: Vec::new(alloc),
             messages: Vec::new(alloc),
             enums: Vec::new(alloc),
             extensions: Vec::new(alloc),
             services: Vec::new(alloc),
+            values: Vec::new(alloc),
         },
     }
 }

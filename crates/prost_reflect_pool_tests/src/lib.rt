@@ -3,6 +3,12 @@
 #![tactic(auto)]
 
 #[cfg(test)]
+mod additions;
+#[cfg(test)]
+mod batches;
+#[cfg(test)]
+mod behind;
+#[cfg(test)]
 mod builtin;
 #[cfg(test)]
 mod describe;
@@ -22,6 +28,8 @@ mod options;
 mod origins;
 #[cfg(test)]
 mod pools;
+#[cfg(test)]
+mod random_files;
 #[cfg(test)]
 mod reductions;
 #[cfg(test)]

@@ -7,7 +7,7 @@ use crate::pools::{A_AND_B, B_AND_A, M_OF_EDITIONS, NAMELESS, SET_M, SOUND_AND_E
 use crate::schema::SCHEMA;
 use crate::whole::WHOLE;
 use prost_reflect::{DescriptorPool, FieldDescriptor, MessageDescriptor};
-use prost_reflect_samples::leaked;
+use prost_reflect_samples::{leaked, sets};
 use std::alloc::{AllocError, Global};
 use std::test::Fail;
 
@@ -33,6 +33,12 @@ pub(crate) enum Set {
     User,
     OptionsOfBool,
     OptionsOfText,
+    Choices,
+    Every,
+    Forms,
+    Groups,
+    Kinds,
+    Worked,
 }
 
 impl Set {
@@ -57,6 +63,12 @@ impl Set {
             Set::User => USER,
             Set::OptionsOfBool => OPTIONS_OF_BOOL,
             Set::OptionsOfText => OPTIONS_OF_TEXT,
+            Set::Choices => sets::choices(),
+            Set::Every => sets::every(),
+            Set::Forms => sets::forms(),
+            Set::Groups => sets::groups(),
+            Set::Kinds => sets::kinds(),
+            Set::Worked => sets::worked(),
         }
     }
 }

@@ -164,17 +164,17 @@ type_among rows [] a m h e = absurd (omega arith)
 type_among rows (x ∷ ms) zero m h e = ap (λ (z : MessageTable). schema_message rows (message_row z)) (sym e)
 type_among rows (x ∷ ms) (suc a) m h e = type_among rows ms a m (omega arith) e
 
-pub type_at : (tables : Tables) (a : ℕ) (m : MessageTable) → a < length tables.messages.items → m ≡ get_or tables.messages.items a m → message_type (schema_of tables) a ≡ schema_message (rows_of tables) (message_row m)
+pub type_at : (tables : Tables) (a : ℕ) (m : MessageTable) → a < length tables.messages → m ≡ get_or tables.messages a m → message_type (schema_of tables) a ≡ schema_message (rows_of tables) (message_row m)
 unfolding schema_from
-type_at tables a m h e = type_among (rows_of tables) tables.messages.items a m h e
+type_at tables a m h e = type_among (rows_of tables) tables.messages a m h e
 
 linked_among : (p : MessageRow → Bool) (ms : List MessageTable) (a : ℕ) (m : MessageTable) → list_all p (map message_row ms) ≡ true → a < length ms → m ≡ get_or ms a m → p (message_row m) ≡ true
 linked_among p [] a m all h e = absurd (omega arith)
 linked_among p (x ∷ ms) zero m all h e = ap (λ (z : MessageTable). p (message_row z)) e ∙ (and_parts (p (message_row x)) (list_all p (map message_row ms)) all).0
 linked_among p (x ∷ ms) (suc a) m all h e = linked_among p ms a m (and_parts (p (message_row x)) (list_all p (map message_row ms)) all).1 (omega arith) e
 
-message_is_linked : (tables : Tables) (a : ℕ) (m : MessageTable) → is_linked (rows_of tables) ≡ true → a < length tables.messages.items → m ≡ get_or tables.messages.items a m → message_linked (length (rows_of tables).messages) (length (rows_of tables).enums) (message_row m) ≡ true
-message_is_linked tables a m linked h e = linked_among (message_linked (length (rows_of tables).messages) (length (rows_of tables).enums)) tables.messages.items a m (and_parts _ _ (and_parts _ _ linked).0).0 h e
+message_is_linked : (tables : Tables) (a : ℕ) (m : MessageTable) → is_linked (rows_of tables) ≡ true → a < length tables.messages → m ≡ get_or tables.messages a m → message_linked (length (rows_of tables).messages) (length (rows_of tables).enums) (message_row m) ≡ true
+message_is_linked tables a m linked h e = linked_among (message_linked (length (rows_of tables).messages) (length (rows_of tables).enums)) tables.messages a m (and_parts _ _ (and_parts _ _ linked).0).0 h e
 
 oneofs_among : (messages enums n : ℕ) (fields : List FieldRow) → list_all (field_linked messages enums n) fields ≡ true → list_all (λ f. oneof_in_range n f.oneof) fields ≡ true
 oneofs_among messages enums n [] h = refl
@@ -182,7 +182,7 @@ oneofs_among messages enums n (f ∷ fields) h =
     let (one, more) = and_parts (field_linked messages enums n f) (list_all (field_linked messages enums n) fields) h in
     and_from _ _ (and_parts (kind_in_range messages enums f.kind) (oneof_in_range n f.oneof) one).1 (oneofs_among messages enums n fields more)
 
-pub oneofs_linked : (tables : Tables) (a : ℕ) (m : MessageTable) → is_linked (rows_of tables) ≡ true → a < length tables.messages.items → m ≡ get_or tables.messages.items a m → list_all (λ f. oneof_in_range (length m.oneofs.items) f.oneof) (map field_row m.fields.items) ≡ true
+pub oneofs_linked : (tables : Tables) (a : ℕ) (m : MessageTable) → is_linked (rows_of tables) ≡ true → a < length tables.messages → m ≡ get_or tables.messages a m → list_all (λ f. oneof_in_range (length m.oneofs.items) f.oneof) (map field_row m.fields.items) ≡ true
 oneofs_linked tables a m linked h e =
     let parts = (and_parts _ _ (and_parts _ _ (and_parts _ _ (message_is_linked tables a m linked h e)).0).0).1 in
     ap (λ n. list_all (λ (f : FieldRow). oneof_in_range n f.oneof) (map field_row m.fields.items)) (sym (length-map m.oneofs.items oneof_row)) ∙ oneofs_among _ _ (length (map oneof_row m.oneofs.items)) (map field_row m.fields.items) parts
@@ -193,12 +193,12 @@ rows_rise rows low (f ∷ fields) h =
     let (ab, c) = and_parts (nat_lt low f.number && nat_lt f.number (2 ^ 29)) (ascending_from f.number fields) h in
     and_from _ _ (and_parts (nat_lt low f.number) (nat_lt f.number (2 ^ 29)) ab).0 (rows_rise rows f.number fields c)
 
-fields_rise : (tables : Tables) (a : ℕ) (m : MessageTable) → is_linked (rows_of tables) ≡ true → a < length tables.messages.items → m ≡ get_or tables.messages.items a m → rising 0 (shown_fields tables m.fields.items) ≡ true
+fields_rise : (tables : Tables) (a : ℕ) (m : MessageTable) → is_linked (rows_of tables) ≡ true → a < length tables.messages → m ≡ get_or tables.messages a m → rising 0 (shown_fields tables m.fields.items) ≡ true
 fields_rise tables a m linked h e =
     rows_rise (rows_of tables) 0 (map field_row m.fields.items) (and_parts _ _ (and_parts _ _ (and_parts _ _ (message_is_linked tables a m linked h e)).0).0).0
 
 -- what is found in the fields of two types explains them
-pub fields_explained : (A B : Tables) (a b : ℕ) (m n : MessageTable) → is_linked (rows_of A) ≡ true → is_linked (rows_of B) ≡ true → a < length A.messages.items → m ≡ get_or A.messages.items a m → b < length B.messages.items → n ≡ get_or B.messages.items b n →
+pub fields_explained : (A B : Tables) (a b : ℕ) (m n : MessageTable) → is_linked (rows_of A) ≡ true → is_linked (rows_of B) ≡ true → a < length A.messages → m ≡ get_or A.messages a m → b < length B.messages → n ≡ get_or B.messages b n →
     entries_whole (schema_message (rows_of A) (message_row m)) (schema_message (rows_of B) (message_row n)) ≡ true → (found : Option FieldFault) → found ≡ merge_fault (shown_fields A m.fields.items) (shown_fields B n.fields.items) →
     Explains (option_map at_field found) (message_type (schema_of A) a) (message_type (schema_of B) b)
 fields_explained A B a b m n linked linked' low e low' d whole found is = go found is
@@ -228,7 +228,7 @@ fields_explained A B a b m n linked linked' low e low' d whole found is = go fou
           (subst (λ (t : MessageType). NumberDiffers fault.kind older t.known fault.number) (sym (type_at B b n low' d)) (fault_differs older newer up up' fault (sym is))),
     )
 
-pub entries_explained : (A B : Tables) (a b : ℕ) (m n : MessageTable) → a < length A.messages.items → m ≡ get_or A.messages.items a m → b < length B.messages.items → n ≡ get_or B.messages.items b n →
+pub entries_explained : (A B : Tables) (a b : ℕ) (m n : MessageTable) → a < length A.messages → m ≡ get_or A.messages a m → b < length B.messages → n ≡ get_or B.messages b n →
     entries_whole (schema_message (rows_of A) (message_row m)) (schema_message (rows_of B) (message_row n)) ≡ false → Explains (Some (record { number = None; kind = MapEntry })) (message_type (schema_of A) a) (message_type (schema_of B) b)
 entries_explained A B a b m n low e low' d whole =
     let at : entries_whole (message_type (schema_of A) a) (message_type (schema_of B) b) ≡ false = ap₂ entries_whole (type_at A a m low e) (type_at B b n low' d) ∙ whole in

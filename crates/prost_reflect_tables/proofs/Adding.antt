@@ -6,7 +6,10 @@ use Rattle.std.specs.Str.{bytes_eq}
 use Rattle.std.specs.BTreeSet.{BTreeSet, contains_text}
 use Rattle.std.proofs.lemmas.Slice.Eq.{bytes_eq-Decides}
 use Rattle.prost_reflect_tables.specs.Adding.{is_named, have_one_name, first_of_name, is_there, unskipped, added, AreNamesOf}
-use Rattle.prost_reflect_tables.proofs.NamePlaces.{list_any_push}
+
+list_any_push : {X : Type 0} (p : X → Bool) (xs : List X) (x : X) → list_any p (xs ++ x ∷ []) ≡ list_any p xs || p x
+list_any_push p [] x = elim (p x) as (λ b. (b || false) ≡ b) [ true ↦ refl | false ↦ refl ]
+list_any_push p (y ∷ xs) x = elim (p y) as (λ b. (b || list_any p (xs ++ x ∷ [])) ≡ ((b || list_any p xs) || p x)) [ true ↦ refl | false ↦ list_any_push p xs x ]
 
 pub no_length : (l : List ℕ) → (length l == 0) ≡ true → l ≡ []
 no_length [] e = refl

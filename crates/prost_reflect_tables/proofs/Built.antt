@@ -1,10 +1,7 @@
 -- What shows that rows are the tables of files.
 use Rattle.std.specs.Prelude.{◌≡◌}
-use Rattle.prost_reflect_tables.proofs.Common.{List, [], refl, ap, ◌∙◌, subst, FileDescriptorProto, MessageTable, EnumTable, TableRows, rows_from, FlatRows, flattened, Checked, linked_rows, AreTablesOf}
+use Rattle.prost_reflect_tables.proofs.Common.{List, [], refl, FileDescriptorProto, MessageTable, EnumTable, TableRows, rows_from, flattened, Checked, linked_rows, AreTablesOf}
 use Rattle.prost_reflect_tables.specs.declared.error.PoolError.TheVariants as errors
-
-pub are_tables_of : (files : List FileDescriptorProto) (flat : FlatRows) (rows : TableRows) → flat ≡ flattened files → Checked files flat → rows ≡ linked_rows flat → AreTablesOf files rows
-are_tables_of files flat rows given checked linked = (subst (Checked files) given checked, linked ∙ ap linked_rows given)
 
 pub checked_of : (files : List FileDescriptorProto) (rows : TableRows) → AreTablesOf files rows → Checked files (flattened files)
 checked_of files rows built = built.0

@@ -131,7 +131,7 @@ pub record ExtensionThere (flat : FlatRows) (rows : TableRows) (i : ℕ) (x : Ex
   pub message : x.message < length rows.messages
   pub at : slice_get (fields_at rows x.message) x.field ≡ Some (linked_field (links_of flat) true definition)
 
-extension_linked : (files : List FileDescriptorProto) (flat : FlatRows) (i : ℕ) (d : DefinitionRow FieldDescriptorProto) → Checked files flat → is_linked (linked_rows flat) ≡ true → slice_get flat.extensions i ≡ Some d →
+pub extension_linked : (files : List FileDescriptorProto) (flat : FlatRows) (i : ℕ) (d : DefinitionRow FieldDescriptorProto) → Checked files flat → is_linked (linked_rows flat) ≡ true → slice_get flat.extensions i ≡ Some d →
     ExtensionThere flat (linked_rows flat) i (linked_extension (links_of flat) (linked_rows flat) d)
 extension_linked files flat i d checked linked there =
     let missing : is_none d.proto.extendee ≡ false = none_at extendee_missing flat.extensions i d (three _ _ _ (checked errors.MissingType)).1 there in

@@ -1,6 +1,6 @@
 -- Rows of a catalog are equal where their parts are.
 use Rattle.std.specs.Prelude.{◌≡◌}
-use Rattle.prost_reflect_tables.proofs.Common.{ℕ, Bool, List, length, ap, ◌∙◌, FileRow, MessageListsRow, EnumListsRow, ExtensionRow, ServiceRow, SortedRow, CatalogRows, catalog_row, FileDescriptorProto, Catalog, FlatRows, flattened, links_of, linked_rows, linked_catalog, IsCatalogOf, TableRows}
+use Rattle.prost_reflect_tables.proofs.Common.{ℕ, Bool, List, length, ap, ◌∙◌, FileRow, MessageListsRow, EnumListsRow, ExtensionRow, ServiceRow, SortedRow, CatalogRows, FlatRows, links_of, linked_rows, TableRows}
 use Rattle.prost_reflect_tables.proofs.Linkwell.Items.{messages_length}
 
 abbrev make_same_file : List ℕ → List ℕ → List ℕ → List ℕ → List ℕ → List ℕ → Bool → FileRow
@@ -29,16 +29,17 @@ same_lists a b p0 p1 p2 p3 p4 p5 p6 =
     ∙ (ap (λ v. make_same_lists b.messages b.enums b.extensions b.extending b.fields v a.by_json_name) p5
     ∙ (ap (λ v. make_same_lists b.messages b.enums b.extensions b.extending b.fields b.by_name v) p6))))))
 
-abbrev make_same_sorted : List ℕ → List ℕ → List ℕ → List ℕ → List ℕ → SortedRow
-make_same_sorted x0 x1 x2 x3 x4 = record { files = x0; messages = x1; enums = x2; extensions = x3; services = x4 }
+abbrev make_same_sorted : List ℕ → List ℕ → List ℕ → List ℕ → List ℕ → List (ℕ × ℕ) → SortedRow
+make_same_sorted x0 x1 x2 x3 x4 x5 = record { files = x0; messages = x1; enums = x2; extensions = x3; services = x4; values = x5 }
 
-pub same_sorted : (a b : SortedRow) → a.files ≡ b.files → a.messages ≡ b.messages → a.enums ≡ b.enums → a.extensions ≡ b.extensions → a.services ≡ b.services → a ≡ b
-same_sorted a b p0 p1 p2 p3 p4 =
-    ap (λ v. make_same_sorted v a.messages a.enums a.extensions a.services) p0
-    ∙ (ap (λ v. make_same_sorted b.files v a.enums a.extensions a.services) p1
-    ∙ (ap (λ v. make_same_sorted b.files b.messages v a.extensions a.services) p2
-    ∙ (ap (λ v. make_same_sorted b.files b.messages b.enums v a.services) p3
-    ∙ (ap (λ v. make_same_sorted b.files b.messages b.enums b.extensions v) p4))))
+pub same_sorted : (a b : SortedRow) → a.files ≡ b.files → a.messages ≡ b.messages → a.enums ≡ b.enums → a.extensions ≡ b.extensions → a.services ≡ b.services → a.values ≡ b.values → a ≡ b
+same_sorted a b p0 p1 p2 p3 p4 p5 =
+    ap (λ v. make_same_sorted v a.messages a.enums a.extensions a.services a.values) p0
+    ∙ (ap (λ v. make_same_sorted b.files v a.enums a.extensions a.services a.values) p1
+    ∙ (ap (λ v. make_same_sorted b.files b.messages v a.extensions a.services a.values) p2
+    ∙ (ap (λ v. make_same_sorted b.files b.messages b.enums v a.services a.values) p3
+    ∙ (ap (λ v. make_same_sorted b.files b.messages b.enums b.extensions v a.values) p4
+    ∙ (ap (λ v. make_same_sorted b.files b.messages b.enums b.extensions b.services v) p5)))))
 
 abbrev make_same_catalog : List FileRow → List MessageListsRow → List EnumListsRow → List ExtensionRow → List ServiceRow → SortedRow → CatalogRows
 make_same_catalog x0 x1 x2 x3 x4 x5 = record { files = x0; messages = x1; enums = x2; extensions = x3; services = x4; by_name = x5 }
@@ -55,7 +56,3 @@ same_catalog a b p0 p1 p2 p3 p4 p5 =
 -- As many messages are linked as there are.
 pub linked_length : (linked : TableRows) (rows : FlatRows) → linked ≡ linked_rows rows → length linked.messages ≡ length rows.messages
 linked_length linked rows e = ap (λ (r : TableRows). length r.messages) e ∙ messages_length (links_of rows) rows.extensions 0 rows.messages
-
-pub is_catalog_of : (files : List FileDescriptorProto) (flat : FlatRows) (catalog : Catalog) → flat ≡ flattened files → catalog_row catalog ≡ linked_catalog files flat → IsCatalogOf files catalog
-unfolding IsCatalogOf
-is_catalog_of files flat catalog given is = is ∙ ap (linked_catalog files) given

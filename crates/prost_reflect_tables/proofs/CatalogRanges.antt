@@ -1,9 +1,10 @@
 -- Each place that the catalog of files names is there, and so is what encloses a row.
 use Rattle.std.specs.Prelude.{◌≡◌, ◌+◌, ◌<◌, ◌≤◌, ◌∷◌}
-use Rattle.prost_reflect_tables.proofs.Common.{ℕ, zero, suc, Bool, true, false, not, cond, List, [], map, length, Option, Some, None, refl, sym, ap, ◌∙◌, subst, arith, slice_get, nat_le, All, length-map, All-nil, All-cons, All-head, All-tail, All-append, All-map, All-filter, get_or_from_slice_get, slice_get_within, same_Some, FieldDescriptorProto, FileDescriptorProto, IdentityRow, FieldRow, MessageRow, EnumRow, TableRows, fields_at, fields_or_none, DefinitionRow, FlatMessageRow, FlatEnumRow, FlatServiceRow, FlatRows, flattened, file_names, message_names, enum_names, names_of, Links, links_of, belonging, linked_field, put_in_order, in_order, extended_place, fields_of_message, declared_fields, linked_message, messages_from, linked_value, value_number, linked_enum, linked_rows, places_from, places_where, FileRow, MessageListsRow, EnumListsRow, ServiceRow, SortedRow, CatalogRows, catalog_row, Catalog, AreTablesOf, each_from, linked_file, field_names, json_names, own_fields, linked_lists, ordered, enum_lists, linked_service, value_names, sorted_places, service_names, linked_extension, linked_catalog, IsCatalogOf}
-use Rattle.prost_reflect_tables.specs.Orders.{put_by, sorted_by, text_before, number_before}
+use Rattle.prost_reflect_tables.proofs.Common.{ℕ, zero, suc, Bool, true, false, not, cond, List, [], map, length, Option, Some, None, unwrap_or, refl, sym, ap, ◌∙◌, subst, arith, slice_get, nat_le, All, length-map, All-nil, All-cons, All-head, All-tail, All-append, All-map, All-filter, get_or_from_slice_get, slice_get_within, same_Some, FieldDescriptorProto, FileDescriptorProto, IdentityRow, FieldRow, MessageRow, EnumRow, TableRows, fields_at, fields_or_none, DefinitionRow, FlatMessageRow, FlatEnumRow, FlatServiceRow, FlatRows, flattened, file_names, message_names, enum_names, names_of, Links, links_of, belonging, linked_field, put_in_order, in_order, extended_place, fields_of_message, declared_fields, linked_message, messages_from, linked_value, value_number, linked_enum, linked_rows, places_from, places_where, all_places, pairs_at, pairs_from, all_pairs, list_at, FileRow, MessageListsRow, EnumListsRow, ServiceRow, SortedRow, CatalogRows, catalog_row, Catalog, AreTablesOf, each_from, linked_file, field_names, json_names, own_fields, linked_lists, ordered, enum_lists, linked_service, value_names, value_places, value_full_name, sorted_places, service_names, linked_extension, linked_catalog, IsCatalogOf}
+use Rattle.prost_reflect_tables.specs.Orders.{put_by, sorted_by, text_at, text_before, number_before}
 use Rattle.prost_reflect_tables.proofs.Built.{linked_of}
 use Rattle.prost_reflect_tables.proofs.FlatRanges.{StandsWithin, FieldWithin, MessageWithin, EnumWithin, ServiceWithin, flattened_within}
+use Rattle.prost_reflect_tables.proofs.Gathering.{pairs_shown}
 use Rattle.prost_reflect_tables.proofs.Linkwell.Items.{messages_length}
 use Rattle.prost_reflect_tables.proofs.CatalogLinks.{mapped_at}
 
@@ -34,7 +35,23 @@ pub ordered_below : {X : Type 0} (before : ℕ → ℕ → Bool) (test : X → B
 ordered_below before test n xs size = order_all (λ (p : ℕ). p < n) before (places_where test xs) (places_below test 0 n xs (omega arith))
 
 pub texts_below : (n : ℕ) (texts : List (List ℕ)) → length texts ≡ n → All (λ p. p < n) (ordered texts)
-texts_below n texts size = ordered_below (text_before texts) (λ x. true) n texts size
+texts_below n texts size = ordered_below (text_before (text_at texts)) (λ x. true) n texts size
+
+-- The item of the pair is there.
+abbrev pub IsInside : {X : Type 0} → List (List X) → ℕ × ℕ → Type 0
+IsInside lists p = p.1 < length (list_at lists p.0)
+
+pairs_within : {X : Type 0} (whole : List (List X)) (i : ℕ) (lists : List (List X)) → ((k : ℕ) → slice_get whole (i + k) ≡ slice_get lists k) → All (IsInside whole) (pairs_from i lists)
+pairs_within whole i [] h = All-nil (IsInside whole)
+pairs_within {X} whole i (xs ∷ lists) h =
+    let at : slice_get whole i ≡ Some xs = ap (slice_get whole) (omega arith) ∙ h 0 in
+    let size : length xs ≡ length (list_at whole i) = ap (λ (o : Option (List X)). length (unwrap_or o [])) (sym at) in
+    All-append (IsInside whole) (pairs_at i xs) (pairs_from (i + 1) lists)
+    (All-map (IsInside whole) (λ (place : ℕ). (i, place)) (all_places xs) (places_below (λ (x : X). true) 0 (length (list_at whole i)) xs (omega (arith, size))))
+    (pairs_within whole (i + 1) lists (λ k. ap (slice_get whole) (omega arith) ∙ h (suc k)))
+
+pub pairs_inside : {X : Type 0} (lists : List (List X)) → All (IsInside lists) (all_pairs lists)
+pairs_inside lists = pairs_within lists 0 lists (λ k. ap (slice_get lists) (omega arith))
 
 pub holds_at : {X : Type 0} (P : X → Type 0) (xs : List X) (k : ℕ) (x : X) → All P xs → slice_get xs k ≡ Some x → P x
 holds_at P xs k x h found = subst P (get_or_from_slice_get xs k x x found) (h k x (slice_get_within xs k x found))
@@ -149,6 +166,7 @@ pub record SortedWithin (F : ℕ) (rows : TableRows) (catalog : CatalogRows) (s 
   pub enums : All (λ i. i < length rows.enums) s.enums
   pub extensions : All (λ i. i < length catalog.extensions) s.extensions
   pub services : All (λ i. i < length catalog.services) s.services
+  pub values : All (IsInside (map (λ e. e.values) rows.enums)) s.values
 
 pub record CatalogWithin (files : List FileDescriptorProto) (rows : TableRows) (catalog : CatalogRows) : Type 0 where
   pub file_count : length catalog.files ≡ length files
@@ -183,8 +201,8 @@ lists_within rows catalog flat T m ms es xs at =
       extensions = places_below _ 0 (length catalog.extensions) flat.extensions (omega arith);
       extending = places_below _ 0 (length catalog.extensions) flat.extensions (omega arith);
       fields = ap (λ (o : Option MessageRow). own_fields (fields_or_none o)) (sym at);
-      by_name = ordered_below (text_before (field_names m.fields)) (λ f. not f.is_extension) (length (fields_at rows T)) m.fields count;
-      by_json_name = ordered_below (text_before (json_names m.fields)) (λ f. not f.is_extension) (length (fields_at rows T)) m.fields count;
+      by_name = ordered_below (text_before (text_at (field_names m.fields))) (λ f. not f.is_extension) (length (fields_at rows T)) m.fields count;
+      by_json_name = ordered_below (text_before (text_at (json_names m.fields))) (λ f. not f.is_extension) (length (fields_at rows T)) m.fields count;
     }
 
 enum_lists_within : (e : FlatEnumRow) → EnumListsWithin (length (linked_enum e).values) (enum_lists e)
@@ -193,15 +211,27 @@ enum_lists_within e = record {
   by_number = ordered_below (number_before (map value_number e.values)) (λ z. true) (length (linked_enum e).values) (map value_number e.values) (length-map e.values value_number ∙ sym (length-map e.values linked_value));
 }
 
+-- The values of linked enums stand where those of the enums do.
+pub values_linked : (rows : TableRows) (flat : FlatRows) → rows.enums ≡ map linked_enum flat.enums → all_pairs (map (λ e. e.values) rows.enums) ≡ value_places flat
+values_linked rows flat linked =
+    ap (λ (es : List EnumRow). all_pairs (map (λ (e : EnumRow). e.values) es)) linked
+    ∙ pairs_shown linked_enum (λ (e : FlatEnumRow). e.values) (λ (e : EnumRow). e.values) linked_value (λ e. refl) 0 flat.enums
+
+values_within : (rows : TableRows) (flat : FlatRows) → rows.enums ≡ map linked_enum flat.enums → All (IsInside (map (λ e. e.values) rows.enums)) (sorted_by (text_before (value_full_name flat)) (value_places flat))
+values_within rows flat linked =
+    let P : ℕ × ℕ → Type 0 = IsInside (map (λ (e : EnumRow). e.values) rows.enums) in
+    order_all P (text_before (value_full_name flat)) (value_places flat) (subst (All P) (values_linked rows flat linked) (pairs_inside (map (λ (e : EnumRow). e.values) rows.enums)))
+
 sorted_within : (files : List FileDescriptorProto) (rows : TableRows) (catalog : CatalogRows) (flat : FlatRows) →
-    length flat.messages ≡ length rows.messages → length flat.enums ≡ length rows.enums → length flat.extensions ≡ length catalog.extensions → length flat.services ≡ length catalog.services →
+    length flat.messages ≡ length rows.messages → rows.enums ≡ map linked_enum flat.enums → length flat.extensions ≡ length catalog.extensions → length flat.services ≡ length catalog.services →
     SortedWithin (length files) rows catalog (sorted_places files flat)
-sorted_within files rows catalog flat m e x s = record {
+sorted_within files rows catalog flat m linked x s = record {
   files = texts_below (length files) (file_names files) (length-map files _);
   messages = texts_below (length rows.messages) (message_names flat) (length-map flat.messages _ ∙ m);
-  enums = texts_below (length rows.enums) (enum_names flat) (length-map flat.enums _ ∙ e);
+  enums = texts_below (length rows.enums) (enum_names flat) (length-map flat.enums _ ∙ (sym (length-map flat.enums linked_enum) ∙ ap (λ (es : List EnumRow). length es) (sym linked)));
   extensions = texts_below (length catalog.extensions) (names_of flat.extensions) (length-map flat.extensions _ ∙ x);
   services = texts_below (length catalog.services) (service_names flat) (length-map flat.services _ ∙ s);
+  values = values_within rows flat linked;
 }
 
 linked_within : (files : List FileDescriptorProto) → CatalogWithin files (linked_rows (flattened files)) (linked_catalog files (flattened files))
@@ -230,7 +260,7 @@ linked_within files =
           let same : flat_row.0 ≡ table.0 = same_Some _ _ (sym flat_row.1 ∙ table.1) in
           subst (λ (n : ℕ). EnumListsWithin n l) (ap (λ (f : FlatEnumRow). length (linked_enum f).values) same ∙ ap (λ (r : EnumRow). length r.values) table.2)
           (subst (λ (l : EnumListsRow). EnumListsWithin (length (linked_enum flat_row.0).values) l) flat_row.2 (enum_lists_within flat_row.0));
-      by_name = sorted_within files rows catalog flat m e x s;
+      by_name = sorted_within files rows catalog flat m refl x s;
     }
 
 -- What the catalog of files names is there.

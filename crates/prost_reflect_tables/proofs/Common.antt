@@ -41,19 +41,18 @@ pub use Rattle.prost_reflect_tables.specs.Faults.{is_unnamed, any_field, name_pl
 pub use Rattle.prost_reflect_tables.specs.Flat.{FlatRows, flattened, DefinitionRow, FlatMessageRow, FlatServiceRow, FlatEnumRow, ScopeRow, Given, Placed, defined, defined_from, field_name, enum_at, enums_from, service_at, services_from, all_from, inside, own_message, message_step, file_scope, file_at, files_from, nothing, both, with_given, behind, oneof_name, value_name, method_name, message_parts, MessageParts}
 unfoldable pub use Rattle.prost_reflect_tables.specs.Flat.{message_at}
 pub use Rattle.prost_reflect_tables.specs.FlatViews.{message_row, definition_row, enum_row, text_list, flat_rows, scope_row, service_row, file_list}
-pub use Rattle.prost_reflect_tables.specs.Gathered.{places_from, places_where, all_places, places_of, gathered}
-pub use Rattle.prost_reflect_tables.specs.Indexed.{IsNumbersOf, AreNumbersOf, numbered, numbered_list, IsIndexOf}
-pub use Rattle.prost_reflect_tables.specs.Indexing.{empty_lists, with_item, grouped, list_rows, messages_with}
+pub use Rattle.prost_reflect_tables.specs.Gathered.{places_from, places_where, all_places, places_of, gathered, pairs_at, pairs_from, all_pairs, list_at}
+pub use Rattle.prost_reflect_tables.specs.Indexing.{empty_lists, with_item, grouped, list_rows}
 pub use Rattle.prost_reflect_tables.specs.Linked.{ascending_from, is_linked, message_linked, field_linked, has_entry_numbers, kind_in_range, oneof_in_range, enum_linked, oneof_linked}
-pub use Rattle.prost_reflect_tables.specs.LinkedCatalog.{each_from, file_place, import_at, dependency_places, linked_file, linked_extension, linked_method, linked_service, linked_catalog, field_names, json_names, own_fields, linked_lists, ordered, enum_lists, value_names, sorted_places, service_names}
+pub use Rattle.prost_reflect_tables.specs.LinkedCatalog.{each_from, file_place, import_at, dependency_places, linked_file, linked_extension, linked_method, linked_service, linked_catalog, field_names, json_names, own_fields, linked_lists, ordered, enum_lists, value_names, value_places, value_full_name, sorted_places, service_names}
 unfoldable pub use Rattle.prost_reflect_tables.specs.LinkedCatalog.{IsCatalogOf}
 pub use Rattle.prost_reflect_tables.specs.Linking.{linked_rows, Links, links_of, natural_or_zero, place_or_first, is_place, extended_place, belonging, declared_fields, fields_of_message, put_in_order, in_order, messages_from, linked_value, value_number, linked_enum, oneof_place, member_place, oneofs_from, linked_oneof, place_in, linked_kind, linked_default, values_of_kind, is_group_code, kind_of_code, is_message, is_packable, is_repeated, cardinality_of_label, json_name_or, json_name, linked_identity}
 unfoldable pub use Rattle.prost_reflect_tables.specs.Linking.{linked_field, linked_message}
 pub use Rattle.prost_reflect_tables.specs.Names.{text_or_empty, without_dot, joined, bracketed}
 pub use Rattle.prost_reflect_tables.specs.Options.{bool_of, bool_among, bool_in, bool_option}
 pub use Rattle.prost_reflect_tables.specs.Places.{place_of, fields_at, fields_or_none, is_declared_at, row_of}
-pub use Rattle.prost_reflect_tables.specs.Resolved.{ResolvedRow, resolved_lists, resolved_row}
-unfoldable pub use Rattle.prost_reflect_tables.specs.Resolved.{resolve, resolved_field}
+pub use Rattle.prost_reflect_tables.specs.Resolved.{ResolvedRow}
+unfoldable pub use Rattle.prost_reflect_tables.specs.Resolved.{resolve}
 pub use Rattle.prost_reflect_tables.specs.Rows.{FieldRow, field_row, TableRows, rows_from, IdentityRow, MessageRow, EnumRow, OneofRow, EnumValueRow, written_scalar, identity_row, oneof_row, enum_value_row}
 pub use Rattle.prost_reflect_tables.specs.Schema.{rows_of}
 pub use Rattle.prost_reflect_tables.specs.Shown.{schema_message, schema_field, schema_default, schema_kind, first_number, enum_kind, is_required, own_type, entry_or_none, entry_at, map_entry, type_or, value_type_of, form_of}

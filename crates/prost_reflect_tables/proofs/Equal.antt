@@ -93,8 +93,8 @@ enum_equal e d = λ i.
 
 pub tables_equal : (a b : Tables) → (tables_code.ghosts).eq a b ≡ rows_eq (rows_of a) (rows_of b)
 tables_equal a b = λ i.
-    listed_equal message_row (message_code.ghosts).eq message_eq message_equal a.messages.items b.messages.items i
-    && listed_equal enum_row (enum_code.ghosts).eq enum_eq enum_equal a.enums.items b.enums.items i
+    listed_equal message_row (message_code.ghosts).eq message_eq message_equal a.messages b.messages i
+    && listed_equal enum_row (enum_code.ghosts).eq enum_eq enum_equal a.enums b.enums i
 
 pub tables_decide : (a b : Tables) → Decides ((tables_code.ghosts).eq a b) (rows_of a ≡ rows_of b)
 tables_decide a b = Decides-at ((tables_code.ghosts).eq a b) (rows_eq (rows_of a) (rows_of b)) (tables_equal a b) (rows_decide (rows_of a) (rows_of b))

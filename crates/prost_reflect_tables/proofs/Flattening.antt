@@ -1,6 +1,6 @@
 -- How flat lists grow.
 use Rattle.std.specs.Prelude.{◌≡◌, ◌+◌, ◌<◌, ◌∷◌, ◌++◌}
-use Rattle.prost_reflect_tables.proofs.Common.{ℕ, List, [], length, map, drop, get_or, refl, sym, ap, ◌∙◌, arith, append_assoc, append-nil, length-append, drop-cons, add-one, DescriptorProto, out-DescriptorProto, fold_out-DescriptorProto, FileDescriptorProto, ScopeRow, FlatMessageRow, FlatRows, Given, nothing, both, with_given, Placed, all_from, inside, own_message, enums_from, defined_from, field_name, message_step, message_at, services_from, file_scope, file_at, behind, files_from}
+use Rattle.prost_reflect_tables.proofs.Common.{ℕ, suc, List, [], length, map, drop, get_or, refl, sym, ap, ◌∙◌, arith, append_assoc, append-nil, length-append, drop-cons, add-one, DescriptorProto, out-DescriptorProto, fold_out-DescriptorProto, FileDescriptorProto, ScopeRow, FlatMessageRow, FlatRows, Given, nothing, both, with_given, Placed, all_from, inside, own_message, enums_from, defined_from, field_name, message_step, message_at, services_from, file_scope, file_at, behind, files_from}
 
 pub same_rows : (a b : FlatRows) → a.messages ≡ b.messages → a.enums ≡ b.enums → a.extensions ≡ b.extensions → a.services ≡ b.services → a ≡ b
 same_rows a b m e x s =
@@ -29,10 +29,11 @@ next_message : (ms : List DescriptorProto) (i : ℕ) (d : DescriptorProto) (scop
     ≡ both (message_at (get_or ms i d) scope number i n) (all_from (map message_at (drop (i + 1) ms)) scope number (i + 1) (n + length (message_at (get_or ms i d) scope number i n).messages))
 next_message ms i d scope number n within = rw (drop-cons ms i d) (rw (add-one i) refl)
 
-pub message_added : (old new : FlatRows) (ms : List DescriptorProto) (i : ℕ) (d : DescriptorProto) (scope : ScopeRow) (number : ℕ) (n m : ℕ) → i < length ms →
-    n ≡ length old.messages → m ≡ length new.messages → with_given old (message_at (get_or ms i d) scope number i n) ≡ new →
+-- So many messages stand in front of all these lists.
+pub message_added : (front : ℕ) (old new : FlatRows) (ms : List DescriptorProto) (i : ℕ) (d : DescriptorProto) (scope : ScopeRow) (number : ℕ) (n m : ℕ) → i < length ms →
+    n ≡ front + length old.messages → m ≡ front + length new.messages → with_given old (message_at (get_or ms i d) scope number i n) ≡ new →
     with_given new (all_from (map message_at (drop (i + 1) ms)) scope number (i + 1) m) ≡ with_given old (all_from (map message_at (drop i ms)) scope number i n)
-message_added old new ms i d scope number n m within n_is m_is added =
+message_added front old new ms i d scope number n m within n_is m_is added =
     let first = message_at (get_or ms i d) scope number i n in
     let longer : m ≡ n + length first.messages = omega (arith, ap (λ (r : FlatRows). length r.messages) added, length-append old.messages first.messages) in
     let rest = λ (k : ℕ). all_from (map message_at (drop (i + 1) ms)) scope number (i + 1) k in
@@ -54,9 +55,9 @@ message_out : (m : DescriptorProto) (scope : ScopeRow) (number : ℕ) (place n :
 unfolding message_at opened
 message_out m scope number place n = ap (λ (f : Placed). f scope number place n) (fold_out-DescriptorProto Placed message_step m)
 
-pub message_closed : (old pushed looped new : FlatRows) (m : DescriptorProto) (scope : ScopeRow) (number : ℕ) (place n k : ℕ) (o : FlatMessageRow) (within : ScopeRow) →
-    n ≡ length old.messages → o ≡ own_message (out-DescriptorProto m) scope number place n → within ≡ inside o.definition n →
-    pushed ≡ record old { messages = old.messages ++ o ∷ [] } → k ≡ length pushed.messages →
+pub message_closed : (front : ℕ) (old pushed looped new : FlatRows) (m : DescriptorProto) (scope : ScopeRow) (number : ℕ) (place n k : ℕ) (o : FlatMessageRow) (within : ScopeRow) →
+    n ≡ front + length old.messages → o ≡ own_message (out-DescriptorProto m) scope number place n → within ≡ inside o.definition n →
+    pushed ≡ record old { messages = old.messages ++ o ∷ [] } → k ≡ front + length pushed.messages →
     looped ≡ with_given pushed (all_from (map message_at (out-DescriptorProto m).nested_type.items) within 3 0 k) →
     new ≡ record looped {
       enums = looped.enums ++ enums_from within 4 0 (out-DescriptorProto m).enum_type.items;
@@ -64,7 +65,7 @@ pub message_closed : (old pushed looped new : FlatRows) (m : DescriptorProto) (s
     } →
     with_given old (message_at m scope number place n) ≡ new
 unfolding opened
-message_closed old pushed looped new m scope number place n k o within n_is o_is within_is pushed_is k_is looped_is new_is =
+message_closed front old pushed looped new m scope number place n k o within n_is o_is within_is pushed_is k_is looped_is new_is =
     let longer : k ≡ n + 1 = omega (arith, ap (λ (r : FlatRows). length r.messages) pushed_is, length-append old.messages (o ∷ [])) in
     let nested = all_from (map message_at (out-DescriptorProto m).nested_type.items) within 3 0 (n + 1) in
     let enums = enums_from within 4 0 (out-DescriptorProto m).enum_type.items in
@@ -98,17 +99,22 @@ file_closed old looped new f file n scope scope_is looped_is new_is =
     same_rows _ _ refl (sym (append_assoc old.enums (given (file_scope f file)).enums (enums (file_scope f file)))) (sym (append_assoc old.extensions (given (file_scope f file)).extensions (extensions (file_scope f file)))) refl
     ∙ (ap (λ (s : ScopeRow). all s (with_given old (given s))) (sym scope_is) ∙ (ap (all scope) (sym looped_is) ∙ sym new_is))
 
-behind_behind : (a b c : FlatRows) → behind (behind a b) c ≡ behind a (behind b c)
+pub behind_behind : (a b c : FlatRows) → behind (behind a b) c ≡ behind a (behind b c)
 behind_behind a b c = same_rows _ _ (append_assoc a.messages b.messages c.messages) (append_assoc a.enums b.enums c.enums) (append_assoc a.extensions b.extensions c.extensions) (append_assoc a.services b.services c.services)
 
-pub file_added : (old new : FlatRows) (fs : List FileDescriptorProto) (i : ℕ) (d : FileDescriptorProto) (n m : ℕ) → i < length fs →
-    n ≡ length old.messages → m ≡ length new.messages → behind old (file_at (get_or fs i d) i n) ≡ new →
-    behind new (files_from (drop (i + 1) fs) (i + 1) m) ≡ behind old (files_from (drop i fs) i n)
-file_added old new fs i d n m within n_is m_is added =
-    let first = file_at (get_or fs i d) i n in
+-- The files stand behind so many others.
+pub file_added : (front files : ℕ) (old new : FlatRows) (fs : List FileDescriptorProto) (i : ℕ) (d : FileDescriptorProto) (n m : ℕ) → i < length fs →
+    n ≡ front + length old.messages → m ≡ front + length new.messages → behind old (file_at (get_or fs i d) (files + i) n) ≡ new →
+    behind new (files_from (drop (i + 1) fs) (files + (i + 1)) m) ≡ behind old (files_from (drop i fs) (files + i) n)
+file_added front files old new fs i d n m within n_is m_is added =
+    let first = file_at (get_or fs i d) (files + i) n in
     let longer : m ≡ n + length first.messages = omega (arith, ap (λ (r : FlatRows). length r.messages) added, length-append old.messages first.messages) in
-    let rest = λ (k : ℕ). files_from (drop (i + 1) fs) (i + 1) k in
-    let next : files_from (drop i fs) i n ≡ behind first (rest (n + length first.messages)) = rw (drop-cons fs i d) (rw (add-one i) refl) in
+    let rest = λ (k : ℕ). files_from (drop (i + 1) fs) (files + (i + 1)) k in
+    let place : files + i + 1 ≡ files + (i + 1) = omega arith in
+    let next : files_from (drop i fs) (files + i) n ≡ behind first (rest (n + length first.messages)) =
+    rw (drop-cons fs i d)
+    (ap (λ (k : ℕ). behind first (files_from (drop (suc i) fs) k (n + length first.messages))) place
+    ∙ ap (λ (j : ℕ). behind first (files_from (drop j fs) (files + (i + 1)) (n + length first.messages))) (sym (add-one i))) in
     ap (λ (r : FlatRows). behind r (rest m)) (sym added)
     ∙ (ap (λ (k : ℕ). behind (behind old first) (rest k)) longer
     ∙ (behind_behind old first (rest (n + length first.messages))

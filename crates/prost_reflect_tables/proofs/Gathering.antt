@@ -1,5 +1,5 @@
 -- Places of items by what the items belong to.
-use Rattle.prost_reflect_tables.proofs.Common.{ℕ, zero, suc, Bool, true, false, cond, List, [], map, length, Option, refl, sym, ap, ◌∙◌, arith, append_assoc, append-nil, get_or, drop, drop-cons, add-one, drop_all, slice_get, is_place, empty_lists, with_item, places_from, all_places, places_of, gathered}
+use Rattle.prost_reflect_tables.proofs.Common.{ℕ, zero, suc, Bool, true, false, cond, List, [], map, length, Option, refl, sym, ap, ◌∙◌, arith, append_assoc, append-nil, get_or, drop, drop-cons, add-one, drop_all, slice_get, is_place, empty_lists, with_item, places_from, all_places, places_of, gathered, pairs_at, pairs_from}
 use Rattle.std.specs.Prelude.{unwrap_or, ◌≡◌, ◌+◌, ◌<◌, ◌≤◌, ◌∷◌, ◌++◌}
 
 -- Behind each list the places of the items that belong to its place, where the first item is at the place p and the first list at i.
@@ -51,10 +51,6 @@ pub rows_gathered : {X Y : Type 0} (row : X → Y) (owner : Y → Option ℕ) (x
 rows_gathered row owner xs T zero = refl
 rows_gathered row owner xs T (suc n) = ap (λ l. l ∷ gathered (λ x. owner (row x)) xs (T + 1) n) (rows_from row (λ y. is_place T (owner y)) 0 xs) ∙ ap (λ l. places_of owner (map row xs) T ∷ l) (rows_gathered row owner xs (T + 1) n)
 
-pub shown_gathered : {X Y : Type 0} (row : X → Y) (owner : Y → Option ℕ) (xs given : List X) (n count : ℕ) (lists : List (List ℕ)) → given ≡ xs → count ≡ n → lists ≡ gathered (λ x. owner (row x)) given 0 count → lists ≡ gathered owner (map row xs) 0 n
-shown_gathered row owner xs given n count lists is size e =
-    e ∙ (ap (λ zs. gathered (λ x. owner (row x)) zs 0 count) is ∙ (ap (gathered (λ x. owner (row x)) xs 0) size ∙ rows_gathered row owner xs 0 n))
-
 -- A copy of the list of a place.
 pub copied_at : {X : Type 0} (owner : X → Option ℕ) (xs : List X) (n k : ℕ) (lists : List (List ℕ)) (copy : List ℕ) → lists ≡ gathered owner xs 0 n → k < n → copy ≡ unwrap_or (slice_get lists k) [] → copy ≡ places_of owner xs k
 copied_at owner xs n k lists copy e h is = is ∙ (ap (λ (ls : List (List ℕ)). unwrap_or (slice_get ls k) []) e ∙ gathered_at owner xs n k h)
@@ -66,3 +62,12 @@ places_shown row i (x ∷ xs) = ap (λ l. i ∷ l) (places_shown row (i + 1) xs)
 
 pub all_shown : {X Y : Type 0} (row : X → Y) (xs : List X) → all_places xs ≡ all_places (map row xs)
 all_shown row xs = places_shown row 0 xs
+
+-- As many items in as many lists have the same pairs.
+pub pairs_shown : {A B X Y : Type 0} (row : A → B) (items : A → List X) (shown : B → List Y) (see : X → Y) → ((a : A) → shown (row a) ≡ map see (items a)) → (i : ℕ) (ls : List A) → pairs_from i (map shown (map row ls)) ≡ pairs_from i (map items ls)
+pairs_shown row items shown see h i [] = refl
+pairs_shown {Y} row items shown see h i (l ∷ ls) =
+    let rest : List (ℕ × ℕ) = pairs_from (i + 1) (map shown (map row ls)) in
+    ap (λ (ys : List Y). pairs_at i ys ++ rest) (h l)
+    ∙ (ap (λ (places : List ℕ). map (λ (place : ℕ). (i, place)) places ++ rest) (sym (all_shown see (items l)))
+    ∙ ap (λ (pairs : List (ℕ × ℕ)). pairs_at i (items l) ++ pairs) (pairs_shown row items shown see h (i + 1) ls))

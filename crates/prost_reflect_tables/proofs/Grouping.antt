@@ -1,6 +1,6 @@
 -- Lists of items, each list at its place.
 use Rattle.std.specs.Prelude.{◌≡◌, ◌+◌, ◌<◌, ◌≤◌, ◌∷◌, ◌++◌, ◌≢◌, ◌⊎◌}
-use Rattle.prost_reflect_tables.proofs.Common.{ℕ, zero, suc, Bool, true, false, cond, List, [], map, length, Option, Some, None, refl, sym, ap, ◌∙◌, arith, append_assoc, append-nil, get_or, drop, drop-cons, add-one, ⊎_elim, inl, inr, Vec, map-append, drop_all, length-map, filter, nat_lt, slice_set, eq-eqb, ne_eqb, is_place, belonging, messages_from, linked_oneof, oneof_place, oneofs_from, links_of, linked_enum, linked_rows, FieldTable, IdentityRow, FieldRow, OneofRow, MessageRow, EnumRow, identity_row, field_row, oneof_row, rows_from, FieldDescriptorProto, OneofDescriptorProto, MessageTable, EnumTable, definition_row, DefinitionRow, FlatRows, IsPartitionPoint, empty_lists, with_item, grouped, list_rows}
+use Rattle.prost_reflect_tables.proofs.Common.{ℕ, zero, suc, Bool, true, false, cond, List, [], map, length, Option, Some, None, refl, sym, ap, ◌∙◌, arith, append_assoc, append-nil, get_or, drop, drop-cons, add-one, ⊎_elim, inl, inr, Vec, map-append, drop_all, length-map, filter, nat_lt, slice_set, eq-eqb, ne_eqb, is_place, belonging, messages_from, linked_oneof, oneof_place, oneofs_from, links_of, linked_enum, linked_rows, FieldTable, IdentityRow, FieldRow, OneofRow, MessageRow, EnumRow, identity_row, field_row, oneof_row, rows_from, FieldDescriptorProto, OneofDescriptorProto, MessageTable, EnumTable, definition_row, DefinitionRow, FlatRows, IsPartitionPoint, empty_lists, with_item, grouped}
 use Rattle.std.proofs.Common.{Global}
 use Rattle.prost_reflect_tables.specs.Rows.{enum_row, message_row as table_row}
 use Rattle.prost_reflect_tables.specs.declared.build.flatten.Definition.{Definition}
@@ -107,10 +107,6 @@ group_of place row xs n k lists v e h at = ap items_in at ∙ (group_from place 
 twice : {A B C : Type 0} (f : A → B) (g : B → C) (xs : List A) → map (λ x. g (f x)) xs ≡ map g (map f xs)
 twice f g [] = refl
 twice f g (x ∷ xs) = ap (λ l. g (f x) ∷ l) (twice f g xs)
-
-pub rows_added : (place : Option ℕ) (f : FieldTable) (old new : List (Vec FieldTable Global)) → map items_in new ≡ with_item place f 0 (map items_in old) → list_rows new ≡ with_item place (field_row f) 0 (list_rows old)
-rows_added place f old new e =
-    twice items_in (map field_row) new ∙ (ap (map (map field_row)) e ∙ (item_shown field_row place f 0 (map items_in old) ∙ ap (with_item place (field_row f) 0) (sym (twice items_in (map field_row) old))))
 
 -- The definition at a place is grouped.
 pub more_grouped : {D X Y : Type 0} (v : D → X) (place : X → Option ℕ) (row : X → Y) (xs : List D) (k : ℕ) (d : D) (old new : List (List Y)) →

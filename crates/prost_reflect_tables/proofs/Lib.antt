@@ -12,16 +12,16 @@ mod WholeBits
 mod Escapes
 mod WorkedDefaults
 mod KindDefaults
-mod Flattening
+pub mod Flattening
 pub mod OptionBytes
 pub mod Sorting
 pub mod Grouping
 pub mod Gathering
 pub mod Orders
+pub mod TextsAt
 pub mod CatalogParts
-pub mod NamePlaces
 mod WorkedLinking
-mod Linkwell
+pub mod Linkwell
 mod WorkedChecks
 pub mod LinksWell
 pub mod CatalogLinks
@@ -35,7 +35,6 @@ mod SameChecks
 mod SameOptions
 pub mod EqualFiles
 mod WorkedFiles
-mod EnumNumbers
 pub mod Spans
 pub mod Adding
 pub mod Refusing

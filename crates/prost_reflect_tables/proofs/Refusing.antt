@@ -1,6 +1,7 @@
 -- Files that have none of the faults pass the checks, and no fault stands in files that do.
 use Rattle.std.specs.Prelude.{◌≡◌, ◌∷◌}
-use Rattle.prost_reflect_tables.proofs.Common.{ℕ, false, List, [], Some, slice_get, refl, list_any, FileDescriptorProto, PoolError, FlatRows, has_fault, Checked}
+use Rattle.prost_reflect_tables.proofs.Common.{ℕ, Bool, false, List, [], Some, slice_get, refl, list_any, PoolError}
+use Rattle.prost_reflect_wire.specs.declared.error.DecodeError.{DecodeError}
 use Rattle.prost_reflect_tables.specs.declared.error.PoolError.TheVariants as errors
 use Rattle.prost_reflect_tables.proofs.Linkwell.Items.{none_at}
 
@@ -8,13 +9,14 @@ use Rattle.prost_reflect_tables.proofs.Linkwell.Items.{none_at}
 abbrev faults : List PoolError
 faults = errors.MissingName ∷ errors.UnknownSyntax ∷ errors.BadIndex ∷ errors.BadNumber ∷ errors.BadRange ∷ errors.MissingType ∷ errors.BadLabel ∷ errors.BadOneof ∷ errors.EmptyEnum ∷ errors.BadOptions ∷ errors.MissingDependency ∷ errors.DuplicateName ∷ errors.UnknownType ∷ errors.DuplicateNumber ∷ errors.OutsideRange ∷ errors.BadMapEntry ∷ errors.BadDefault ∷ errors.FloatDefault ∷ []
 
-pub none_found : (files : List FileDescriptorProto) (rows : FlatRows) → list_any (λ e. has_fault e files rows) faults ≡ false → Checked files rows
-none_found files rows none e = go e
+-- Where none of them stands, and a refusal that says nothing of the definitions never does, nothing stands.
+pub none_found : (fault : PoolError → Bool) → ((d : DecodeError) → fault (errors.Decode d) ≡ false) → fault errors.OutOfMemory ≡ false → list_any fault faults ≡ false → (e : PoolError) → fault e ≡ false
+none_found fault unread full none e = go e
   where
-    at : (i : ℕ) (e : PoolError) → slice_get faults i ≡ Some e → has_fault e files rows ≡ false
-    at i e there = none_at (λ e. has_fault e files rows) faults i e none there
+    at : (i : ℕ) (e : PoolError) → slice_get faults i ≡ Some e → fault e ≡ false
+    at i e there = none_at fault faults i e none there
 
-    go : (e : PoolError) → has_fault e files rows ≡ false
+    go : (e : PoolError) → fault e ≡ false
     go errors.MissingName = at 0 errors.MissingName refl
     go errors.UnknownSyntax = at 1 errors.UnknownSyntax refl
     go errors.BadIndex = at 2 errors.BadIndex refl
@@ -33,5 +35,5 @@ none_found files rows none e = go e
     go errors.BadMapEntry = at 15 errors.BadMapEntry refl
     go errors.BadDefault = at 16 errors.BadDefault refl
     go errors.FloatDefault = at 17 errors.FloatDefault refl
-    go (errors.Decode d) = refl
-    go errors.OutOfMemory = refl
+    go (errors.Decode d) = unread d
+    go errors.OutOfMemory = full

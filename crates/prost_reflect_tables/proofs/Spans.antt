@@ -1,11 +1,9 @@
 -- A number is in one of some ranges exactly where it is in the last of their spans in order that starts at it or below.
-use Rattle.std.specs.Prelude.{◌≡◌, ◌+◌, ◌<◌, ◌≤◌, ◌&&◌, ◌||◌, ◌∷◌, ◌++◌, ◌-◌}
-use Rattle.prost_reflect_tables.proofs.Common.{ℕ, zero, suc, ℤ, pos, negsuc, Bool, true, false, cond, List, [], map, length, take, get_or, Option, Some, None, slice_get, refl, sym, ap, ◌∙◌, subst, arith, ⊎_elim, nat_le, nat_lt, int_le, int_lt, not, Vec, list_any, IsNonDecreasingBy, IsPartitionPoint, IsPermutation, Global, take_more, map-append, get_or_default, list_any_at, cases_lt, FlatMessage, FlatMessageRow, message_row, flat_rows, is_in_range, is_out_of, number_or_zero, natural_or_zero}
+use Rattle.std.specs.Prelude.{◌≡◌, ◌<◌, ◌≤◌, ◌&&◌, ◌||◌, ◌∷◌, ◌-◌}
+use Rattle.prost_reflect_tables.proofs.Common.{ℕ, zero, suc, ℤ, pos, negsuc, Bool, true, false, cond, List, [], map, length, get_or, Option, Some, None, refl, sym, ap, ◌∙◌, arith, ⊎_elim, nat_le, nat_lt, int_le, int_lt, list_any, IsNonDecreasingBy, IsPartitionPoint, IsPermutation, get_or_default, list_any_at, cases_lt, is_in_range, number_or_zero, natural_or_zero}
 use Rattle.std.proofs.lemmas.List.Sorted.{list_any-IsPermutation}
 use Rattle.prost_reflect_types.specs.declared.ExtensionRange.{ExtensionRange}
-use Rattle.prost_reflect_tables.specs.declared.build.flatten.Flat.{Flat}
-use Rattle.prost_reflect_tables.specs.ResolvedFaults.{flat_message_at}
-use Rattle.prost_reflect_tables.specs.Spans.{is_in_span, span_of, greater, reaching, AreSpansOf, AreSpansOfAll}
+use Rattle.prost_reflect_tables.specs.Spans.{is_in_span, span_of, greater, reaching, AreSpansOf}
 use Rattle.prost_reflect_tables.proofs.Sorting.{Rising, rising_from}
 
 -- ORDER
@@ -129,52 +127,6 @@ spans_in_order ranges sorted moved up = record {
   where
     rise : Rising (λ (s : ℕ × ℕ). s.0) 0 sorted
     rise = rising_from (λ (s : ℕ × ℕ). s.0) 0 sorted up (λ d some. omega arith)
-
--- ALL MESSAGES
-
-spans_push : (all : List (Vec (ℕ × ℕ) Global)) (ms : List FlatMessageRow) (spans : Vec (ℕ × ℕ) Global) (m : FlatMessageRow) → AreSpansOfAll all ms → AreSpansOf spans.items m.definition.proto.extension_range → AreSpansOfAll (all ++ spans ∷ []) (ms ++ m ∷ [])
-spans_push [] [] spans m h is = (is, tt)
-spans_push (a ∷ all) (b ∷ ms) spans m h is = (h.0, spans_push all ms spans m h.1 is)
-spans_push _ _ spans m h is = absurd h
-
--- The spans of one message more.
-pub spans_more : (all : List (Vec (ℕ × ℕ) Global)) (spans : Vec (ℕ × ℕ) Global) (ms : List FlatMessage) (i : ℕ) (m : FlatMessage) → i < length ms → m ≡ get_or ms i m →
-    AreSpansOfAll all (map message_row (take i ms)) → AreSpansOf spans.items (message_row m).definition.proto.extension_range → AreSpansOfAll (all ++ spans ∷ []) (map message_row (take (i + 1) ms))
-spans_more all spans ms i m h same so is = rw more (spans_push all (map message_row (take i ms)) spans (message_row m) so is)
-  where
-    more : map message_row (take (i + 1) ms) ≡ map message_row (take i ms) ++ message_row m ∷ []
-    more = ap (map message_row) (take_more ms i m h) ∙ (map-append message_row (take i ms) (get_or ms i m ∷ []) ∙ ap (λ (x : FlatMessage). map message_row (take i ms) ++ message_row x ∷ []) (sym same))
-
-pub spans_long : (all : List (Vec (ℕ × ℕ) Global)) (ms : List FlatMessage) → AreSpansOfAll all (map message_row ms) → length all ≡ length ms
-spans_long [] [] h = refl
-spans_long (a ∷ all) (m ∷ ms) h = ap suc (spans_long all ms h.1)
-spans_long _ _ h = absurd h
-
-spans_at : (all : List (Vec (ℕ × ℕ) Global)) (ms : List FlatMessage) → AreSpansOfAll all (map message_row ms) → (i : ℕ) (s : Vec (ℕ × ℕ) Global) (m : FlatMessage) → i < length all →
-    AreSpansOf (get_or all i s).items (message_row (get_or ms i m)).definition.proto.extension_range
-spans_at (a ∷ all) (b ∷ ms) h zero s m lt = h.0
-spans_at (a ∷ all) (b ∷ ms) h (suc i) s m lt = spans_at all ms h.1 i s m (omega (arith, lt))
-spans_at [] [] h i s m lt = absurd (omega (arith, lt))
-spans_at _ _ h i s m lt = absurd h
-
-pub spans_found : (all : List (Vec (ℕ × ℕ) Global)) (ms : List FlatMessage) → AreSpansOfAll all (map message_row ms) → (i : ℕ) (s : Vec (ℕ × ℕ) Global) (m : FlatMessage) → i < length all → s ≡ get_or all i s → m ≡ get_or ms i m →
-    AreSpansOf s.items (message_row m).definition.proto.extension_range
-spans_found all ms h i s m lt e f =
-    subst (λ (t : Vec (ℕ × ℕ) Global). AreSpansOf t.items (message_row m).definition.proto.extension_range) (sym e)
-    (subst (λ (n : FlatMessage). AreSpansOf (get_or all i s).items (message_row n).definition.proto.extension_range) (sym f) (spans_at all ms h i s m lt))
-
-message_at : (ms : List FlatMessage) (i : ℕ) (m : FlatMessage) → i < length ms → slice_get (map message_row ms) i ≡ Some (message_row (get_or ms i m))
-message_at [] i m lt = absurd (omega (arith, lt))
-message_at (b ∷ ms) zero m lt = refl
-message_at (b ∷ ms) (suc i) m lt = message_at ms i m (omega (arith, lt))
-
--- What an extension's number is looked for in, once the message is found.
-pub outside_is : (flat : Flat) (number : ℤ) (place : Option ℕ) (i : ℕ) (m : FlatMessage) → place ≡ Some i → i < length flat.messages.items → m ≡ get_or flat.messages.items i m →
-    is_out_of number (flat_message_at (flat_rows flat) place) ≡ not (list_any (is_in_range number) (message_row m).definition.proto.extension_range)
-outside_is flat number place i m named lt e =
-    ap (λ o. is_out_of number (flat_message_at (flat_rows flat) o)) named
-    ∙ ap (is_out_of number) (message_at flat.messages.items i m lt)
-    ∙ ap (λ (n : FlatMessage). is_out_of number (Some (message_row n))) (sym e)
 
 -- SEARCHING
 

@@ -51,6 +51,7 @@ pub record SortedRow : Type 0 where
   pub enums : List ℕ
   pub extensions : List ℕ
   pub services : List ℕ
+  pub values : List (ℕ × ℕ)
 
 pub record CatalogRows : Type 0 where
   pub files : List FileRow
@@ -79,7 +80,7 @@ abbrev pub service_table_row : ServiceTable → ServiceRow
 service_table_row s = record { id = identity_row s.id; methods = map method_table_row s.methods.items }
 
 abbrev pub sorted_row : SortedPlaces → SortedRow
-sorted_row s = record { files = s.files.items; messages = s.messages.items; enums = s.enums.items; extensions = s.extensions.items; services = s.services.items }
+sorted_row s = record { files = s.files.items; messages = s.messages.items; enums = s.enums.items; extensions = s.extensions.items; services = s.services.items; values = s.values.items }
 
 abbrev pub catalog_row : Catalog → CatalogRows
-catalog_row c = record { files = map file_table_row c.files.items; messages = map message_lists_row c.messages.items; enums = map enum_lists_row c.enums.items; extensions = map extension_table_row c.extensions.items; services = map service_table_row c.services.items; by_name = sorted_row c.by_name }
+catalog_row c = record { files = map file_table_row c.files; messages = map message_lists_row c.messages; enums = map enum_lists_row c.enums; extensions = map extension_table_row c.extensions; services = map service_table_row c.services; by_name = sorted_row c.by_name }

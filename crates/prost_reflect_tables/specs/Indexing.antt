@@ -2,9 +2,8 @@
 use Rattle.std.specs.Prelude.{ℕ, zero, suc, ◌+◌, if◌then◌else◌, List, [], ◌∷◌, ◌++◌, map, Option, Vec}
 use Rattle.std.specs.declared.alloc.Global.{Global}
 use Rattle.prost_reflect_tables.specs.declared.tables.FieldTable.{FieldTable}
-use Rattle.prost_reflect_tables.specs.Rows.{FieldRow, MessageRow, field_row}
-use Rattle.prost_reflect_tables.specs.Flat.{FlatMessageRow}
-use Rattle.prost_reflect_tables.specs.Linking.{is_place, belonging, linked_message}
+use Rattle.prost_reflect_tables.specs.Rows.{FieldRow, field_row}
+use Rattle.prost_reflect_tables.specs.Linking.{is_place, belonging}
 
 -- So many empty lists.
 abbrev pub empty_lists : {X : Type 0} → ℕ → List (List X)
@@ -23,8 +22,3 @@ grouped place row xs i (ys ∷ lists) = (ys ++ map row (belonging place xs i)) �
 
 abbrev pub list_rows : List (Vec FieldTable Global) → List (List FieldRow)
 list_rows lists = map (λ fields. map field_row fields.items) lists
-
--- Each message with the list of its fields.
-abbrev pub messages_with : List (List FieldRow) → List FlatMessageRow → List MessageRow
-messages_with (fields ∷ lists) (m ∷ ms) = linked_message fields m ∷ messages_with lists ms
-messages_with lists ms = []

@@ -22,7 +22,6 @@ pub mod Walks
 pub mod Built
 pub mod Adding
 pub mod ReadErrors
-pub mod Indexed
 pub mod Spans
 pub mod Options
 pub mod Linking

@@ -13,8 +13,8 @@ use Rattle.prost_reflect_tables.specs.Flat.{DefinitionRow, FlatEnumRow, FlatServ
 use Rattle.prost_reflect_tables.specs.Faults.{name_place, file_names, message_names, enum_names, names_of}
 use Rattle.prost_reflect_tables.specs.Linking.{Links, links_of, natural_or_zero, place_in, place_or_first, extended_place, value_number, linked_identity, linked_rows}
 use Rattle.prost_reflect_tables.specs.CatalogRows.{FileRow, MessageListsRow, EnumListsRow, ExtensionRow, MethodRow, ServiceRow, SortedRow, CatalogRows, catalog_row}
-use Rattle.prost_reflect_tables.specs.Gathered.{places_where, all_places, places_of}
-use Rattle.prost_reflect_tables.specs.Orders.{by_text, by_number}
+use Rattle.prost_reflect_tables.specs.Gathered.{places_where, all_places, places_of, all_pairs}
+use Rattle.prost_reflect_tables.specs.Orders.{sorted_by, text_in, text_before, by_text, by_number}
 
 -- What each item gives at its place, where the first item is at the place i.
 abbrev pub each_from : {X Y : Type 0} → (ℕ → X → Y) → ℕ → List X → List Y
@@ -108,6 +108,18 @@ linked_service links s = record { id = linked_identity s.definition.proto.name s
 abbrev pub service_names : FlatRows → List (List ℕ)
 service_names rows = map (λ s. s.definition.full_name) rows.services
 
+-- The values of all enums, each as the place of its enum and its place among the values of that enum, by enum and then by declaration.
+abbrev pub value_places : FlatRows → List (ℕ × ℕ)
+value_places rows = all_pairs (map (λ e. e.values) rows.enums)
+
+-- The full names of the values of each enum.
+abbrev pub value_full_names : FlatRows → List (List (List ℕ))
+value_full_names rows = map (λ e. names_of e.values) rows.enums
+
+-- That of the value at such a place.
+abbrev pub value_full_name : FlatRows → ℕ × ℕ → List ℕ
+value_full_name rows p = text_in (value_full_names rows) p
+
 abbrev pub sorted_places : List FileDescriptorProto → FlatRows → SortedRow
 sorted_places files rows = record {
   files = ordered (file_names files);
@@ -115,6 +127,7 @@ sorted_places files rows = record {
   enums = ordered (enum_names rows);
   extensions = ordered (names_of rows.extensions);
   services = ordered (service_names rows);
+  values = sorted_by (text_before (value_full_name rows)) (value_places rows);
 }
 
 abbrev pub linked_catalog : List FileDescriptorProto → FlatRows → CatalogRows

@@ -2,6 +2,7 @@
 use Rattle.std.specs.Prelude.{ℕ, ℤ, pos, Bool, if◌then◌else◌, List, [], ◌∷◌, slice_get, unwrap_or}
 use Rattle.std.specs.Ordering.{nat_cmp, int_cmp, is_lt}
 use Rattle.std.specs.Cmp.Lexicographic.{slice_cmp}
+use Rattle.prost_reflect_tables.specs.Gathered.{list_at}
 
 -- In front of the first item that it does not stand behind.
 abbrev pub put_by : {X : Type 0} → (before : X → X → Bool) → X → List X → List X
@@ -18,12 +19,16 @@ sorted_by before (x ∷ xs) = put_by before x (sorted_by before xs)
 abbrev pub text_at : List (List ℕ) → ℕ → List ℕ
 text_at texts place = unwrap_or (slice_get texts place) []
 
+-- The text at the second place, in the list at the first.
+abbrev pub text_in : List (List (List ℕ)) → ℕ × ℕ → List ℕ
+text_in lists p = text_at (list_at lists p.0) p.1
+
 -- Texts are compared byte by byte.
-abbrev pub text_before : List (List ℕ) → ℕ → ℕ → Bool
-text_before texts i j = is_lt (slice_cmp nat_cmp (text_at texts i) (text_at texts j))
+abbrev pub text_before : {X : Type 0} → (text : X → List ℕ) → X → X → Bool
+text_before text x y = is_lt (slice_cmp nat_cmp (text x) (text y))
 
 abbrev pub by_text : List (List ℕ) → List ℕ → List ℕ
-by_text texts places = sorted_by (text_before texts) places
+by_text texts places = sorted_by (text_before (text_at texts)) places
 
 -- BY NUMBERS
 

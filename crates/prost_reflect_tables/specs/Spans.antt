@@ -1,10 +1,10 @@
 -- Extension ranges in an order in which a number is found among them at once. For private contracts alone.
-use Rattle.std.specs.Prelude.{◌≡◌, ⊤, ℕ, pos, nat_le, nat_lt, Bool, ◌&&◌, List, [], ◌∷◌, if◌then◌else◌, Vec}
-use Rattle.std.specs.List.{list_any}
+use Rattle.std.specs.Prelude.{◌≡◌, ℕ, pos, nat_le, nat_lt, Bool, ◌&&◌, List, [], ◌∷◌, if◌then◌else◌, Option, Some, option_map, slice_get, Vec}
+use Rattle.std.specs.List.{All, list_any}
 use Rattle.std.specs.List.Sorted.{IsNonDecreasingBy}
 use Rattle.std.specs.declared.alloc.Global.{Global}
 use Rattle.prost_reflect_types.specs.declared.ExtensionRange.{ExtensionRange}
-use Rattle.prost_reflect_tables.specs.Flat.{FlatMessageRow}
+use Rattle.prost_reflect_tables.specs.Flat.{FlatMessageRow, FlatRows}
 use Rattle.prost_reflect_tables.specs.Faults.{is_in_range}
 use Rattle.prost_reflect_tables.specs.Linking.{natural_or_zero}
 
@@ -29,8 +29,14 @@ pub record AreSpansOf (spans : List (ℕ × ℕ)) (ranges : List ExtensionRange)
   pub ends : IsNonDecreasingBy (λ s. s.1) spans
   pub numbers : (n : ℕ) → list_any (is_in_span n) spans ≡ list_any (is_in_range (pos n)) ranges
 
--- The same for each message of a list, at its place.
-abbrev pub AreSpansOfAll : List (Vec (ℕ × ℕ) Global) → List FlatMessageRow → Type 0
-AreSpansOfAll [] [] = ⊤
-AreSpansOfAll (spans ∷ more) (m ∷ ms) = AreSpansOf spans.items m.definition.proto.extension_range × AreSpansOfAll more ms
-AreSpansOfAll more ms = ⊥
+-- The extension ranges of a message.
+abbrev pub ranges_of : Option FlatMessageRow → Option (List ExtensionRange)
+ranges_of m = option_map (λ m. m.definition.proto.extension_range) m
+
+-- Spans of a message at its place.
+abbrev pub AreSpansAt : FlatRows → ℕ × Vec (ℕ × ℕ) Global → Type 0
+AreSpansAt rows own = (ranges : List ExtensionRange) → ranges_of (slice_get rows.messages own.0) ≡ Some ranges → AreSpansOf own.1.items ranges
+
+-- The same for each of some messages.
+abbrev pub AreSpansIn : FlatRows → List (ℕ × Vec (ℕ × ℕ) Global) → Type 0
+AreSpansIn rows spans = All (AreSpansAt rows) spans

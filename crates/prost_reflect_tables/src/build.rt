@@ -2,8 +2,7 @@
 
 pub mod defaults;
 pub mod flatten;
-pub mod index;
 pub mod kinds;
+pub mod name_lists;
 pub mod names;
 pub mod options;
-pub mod resolve;

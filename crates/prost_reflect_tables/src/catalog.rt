@@ -2,6 +2,7 @@
 //! services, and places in the order of names.
 
 use crate::tables::Identity;
+use prost_reflect_shared::shared_list::SharedList;
 
 /// What stands in a file.
 #[derive(PartialEq, Eq, Debug, Drop)]
@@ -92,21 +93,24 @@ pub struct SortedPlaces {
     pub extensions: Vec<usize>,
     /// The services.
     pub services: Vec<usize>,
+    /// The values of all enums, each as the place of its enum and its place among the values of that enum; of values of one full
+    /// name the first, in the order of the enums and then of their declaration, stands first.
+    pub values: Vec<(usize, usize)>,
 }
 
 /// What descriptors tell of a pool besides its rows.
 #[derive(PartialEq, Eq, Debug, Drop)]
 pub struct Catalog {
     /// The files, as they were added.
-    pub files: Vec<FileTable>,
+    pub files: SharedList<FileTable>,
     /// The lists of each message type.
-    pub messages: Vec<MessageLists>,
+    pub messages: SharedList<MessageLists>,
     /// The lists of each enum.
-    pub enums: Vec<EnumLists>,
+    pub enums: SharedList<EnumLists>,
     /// The extensions, by file and then by path.
-    pub extensions: Vec<ExtensionTable>,
+    pub extensions: SharedList<ExtensionTable>,
     /// The services, by file and then by path.
-    pub services: Vec<ServiceTable>,
+    pub services: SharedList<ServiceTable>,
     /// The places of all of them, by their full names.
     pub by_name: SortedPlaces,
 }

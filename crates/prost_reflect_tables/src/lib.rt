@@ -5,8 +5,8 @@
 //! are what these lists are linked to. All definitions of checks and of linking stand here, in `specs/`, so that a reader finds
 //! in one place what is wrong with files and what they link to; `prost_reflect_checks` and `prost_reflect_linking` compute it.
 //!
-//! Begin with `tables` and `catalog`, the rows; `build/flatten`, `build/index` and `build/resolve` lead from records to what
-//! checks and linking read, and `lookup` finds what stands at a place.
+//! Begin with `tables` and `catalog`, the rows; `build/flatten` leads from records to what checks and linking read, and `lookup`
+//! finds what stands at a place.
 #![tactic(auto)]
 
 mod build;
@@ -23,14 +23,10 @@ pub use build::defaults::written_default;
 pub use build::flatten::{
     Definition, DefinitionRef, Flat, FlatEnum, FlatMessage, FlatService, flattened, is_proto3,
 };
-pub use build::index::{
-    Index, add_names, enum_names, enum_place, file_names, index_of, indexed, message_names,
-    message_place,
-};
-pub use build::kinds::{is_packable, natural_or_zero, place_in};
-pub use build::names::text_or_empty;
+pub use build::kinds::{is_packable, linked_kind, natural_or_zero, place_in};
+pub use build::name_lists::{add_names, enum_names, file_names, message_names};
+pub use build::names::{text_or_empty, without_dot};
 pub use build::options::{bool_option, is_entry};
-pub use build::resolve::{Resolved, ResolvedField, all_resolved};
 pub use catalog::{
     Catalog, EnumLists, ExtensionTable, FileTable, MessageLists, MethodTable, ServiceTable,
     SortedPlaces,

@@ -6,6 +6,7 @@ ghost use Rattle.std.specs.Prelude.{IsTrue};
 ghost use Rattle.prost_reflect_tables.specs.Rows.{rows_from};
 ghost use Rattle.prost_reflect_tables.specs.Linked.{is_linked};
 
+use prost_reflect_shared::shared_list::SharedList;
 use std::alloc::AllocError;
 use std::fmt;
 
@@ -233,8 +234,8 @@ pub struct EnumTable {
 #[derive(PartialEq, Eq, Debug, Drop)]
 pub struct Tables {
     /// The message types, nested ones too.
-    pub messages: Vec<MessageTable>,
+    pub messages: SharedList<MessageTable>,
     /// The enums, nested ones too.
-    pub enums: Vec<EnumTable>,
-    pub ghost linked: { IsTrue (is_linked (rows_from messages.items enums.items)) },
+    pub enums: SharedList<EnumTable>,
+    pub ghost linked: { IsTrue (is_linked (rows_from messages enums)) },
 }

@@ -1,17 +1,19 @@
 //! Files that are taken, and small changes to them that are refused by their names.
 
 use crate::faults::{FAULTS, TAKEN};
-use prost_reflect_checks::check_files;
-use prost_reflect_tables::{PoolError, flattened};
+use prost_reflect_building::with_files;
+use prost_reflect_pool::LinkedPool;
+use prost_reflect_samples::leaked;
+use prost_reflect_tables::PoolError;
 use prost_reflect_types::{FileDescriptorProto, Proto};
 use std::alloc::{AllocError, Global};
 use std::test::Fail;
 
 /// Why the file of these bytes alone is refused, or nothing.
 fn refusal(alloc: Global, bytes: &[u8]) -> Result<Option<PoolError>, Fail> {
-    let file = FileDescriptorProto::decode(alloc, bytes)?;
-    let flat = flattened(alloc, &[&file])?;
-    Ok(check_files(alloc, &[&file], &flat).err())
+    let pool = leaked(alloc, LinkedPool::new(alloc))?;
+    let files = vec![in alloc; FileDescriptorProto::decode(alloc, bytes)?]?;
+    Ok(with_files(pool, files).err())
 }
 
 /// The parts, one behind the other.

@@ -1,10 +1,10 @@
 //! What files are flattened to, and the tables and the catalog that are linked of them.
 
-use prost_reflect_building::build_tables;
-use prost_reflect_linking::{linked, meanings, meanings_by_message};
+use prost_reflect_building::with_files;
+use prost_reflect_pool::LinkedPool;
+use prost_reflect_samples::leaked;
 use prost_reflect_tables::{
-    Catalog, EnumTable, FieldTable, Flat, FlatMessage, Identity, MessageTable, Resolved, Tables,
-    all_resolved, flattened,
+    Catalog, FieldTable, Flat, FlatMessage, Identity, MessageTable, Tables, flattened,
 };
 use prost_reflect_types::{FileDescriptorProto, Proto};
 use std::alloc::{AllocError, Global};
@@ -109,7 +109,7 @@ static NESTED_TEXT: &str = "\
 /// Whether the definitions of the file are shown as the text.
 fn is_flattened(alloc: Global, file: &[u8], text: &str) -> Result<bool, Fail> {
     let file = FileDescriptorProto::decode(alloc, file)?;
-    let flat = flattened(alloc, &[&file])?;
+    let flat = flattened(alloc, 0, 0, &[&file])?;
     let mut seen = String::new(alloc);
     show_flat(&mut seen, &flat)?;
     Ok(seen.as_str() == text)
@@ -153,16 +153,12 @@ fn show_message(seen: &mut String, message: &MessageTable) -> Result<(), AllocEr
     Ok(())
 }
 
-fn shown(
-    alloc: Global,
-    messages: &[MessageTable],
-    enums: &[EnumTable],
-) -> Result<String, AllocError> {
+fn shown(alloc: Global, tables: &Tables) -> Result<String, AllocError> {
     let mut seen = String::new(alloc);
-    for message in messages {
+    for message in &tables.messages {
         show_message(&mut seen, message)?;
     }
-    for item in enums {
+    for item in &tables.enums {
         write!(seen, "{} ", item.id.full_name)?;
         for value in &item.values {
             write!(seen, "{} ", value.number)?;
@@ -178,51 +174,45 @@ static MY_MESSAGE: &[u8] =
     \x0d\x0a\x03bar\x18\x02 \x01(\x05H\x00\x12\"\x0a\x06nested\x18\x03 \x01(\x0b2\x12.package.MyMess\
     ageB\x0a\x0a\x08optionalb\x06proto3";
 
+/// The pool of files, lent to the end of the run.
+fn pool_of(alloc: Global, files: &[&[u8]]) -> Result<&'static LinkedPool, Fail> {
+    let mut batch = Vec::new(alloc);
+    for file in files {
+        batch.push(FileDescriptorProto::decode(alloc, file)?)?;
+    }
+    let pool = leaked(alloc, LinkedPool::new(alloc))?;
+    Ok(leaked(alloc, with_files(pool, batch)?)?)
+}
+
 /// A message type with a oneof and a field of its own type, in proto3.
 #[test]
 fn linked_proto3(rt: HostRuntime) -> Result<(), Fail> {
-    let file = FileDescriptorProto::decode(rt.alloc(), MY_MESSAGE)?;
-    let (tables, _) = build_tables(rt.alloc(), &[&file])?;
+    let tables = pool_of(rt.alloc(), &[MY_MESSAGE])?.tables();
     assert!(rt;
-        shown(rt.alloc(), &tables.messages, &tables.enums)?.as_str()
+        shown(rt.alloc(), tables)?.as_str()
             == "package.MyMessage false: 1 foo Int32 Optional extension false group false packed false presence false None None; 2 bar Int32 Optional extension false group false packed false presence true None Some(0); 3 nested Message(0) Optional extension false group false packed false presence true None None; oneof optional [1]; "
     );
     Ok(())
 }
 
-/// proto2: `message M { repeated int32 p = 9; repeated int32 l = 8; required E e = 7 [default = ZERO]; } enum E { ZERO = 0; }`,
-/// where `p` has the option `packed` twice and is packed at last, with the message `Entry` that is a map's entry, and the
-/// extension `optional group x = 5` of `M` with the type `Entry`.
+/// proto2: `message M { repeated int32 p = 9; repeated int32 l = 8; required E e = 7 [default = ZERO]; map<string, string> m = 6;
+/// extensions 5; } message X {} enum E { ZERO = 0; } extend M { optional group X = 5; }`, where `p` has the option `packed` twice
+/// and is packed at last.
 static FORMS: &[u8] =
-    b"\x0a\x07m.proto\"3\x0a\x01M\x12\x0f\x0a\x01p\x18\x09 \x03(\x05B\x04\x10\x00\x10\x01\x12\x09\
-    \x0a\x01l\x18\x08 \x03(\x05\x12\x12\x0a\x01e\x18\x07 \x02(\x0e2\x01E:\x04ZERO\"\x18\x0a\x05Entry\
-    \x12\x0b\x0a\x03key\x18\x01 \x01(\x09:\x028\x01*\x0d\x0a\x01E\x12\x08\x0a\x04ZERO\x10\x00:\x15\
-    \x0a\x01x\x12\x02.M\x18\x05 \x01(\x0a2\x06.Entry";
+    b"\x0a\x07m.proto\"x\x0a\x01M\x12\x0f\x0a\x01p\x18\x09 \x03(\x05B\x04\x10\x00\x10\x01\x12\x09\
+    \x0a\x01l\x18\x08 \x03(\x05\x12\x12\x0a\x01e\x18\x07 \x02(\x0e2\x01E:\x04ZERO\x12\x13\x0a\x01m\
+    \x18\x06 \x03(\x0b2\x08M.MEntry\x1a(\x0a\x06MEntry\x12\x0b\x0a\x03key\x18\x01 \x01(\x09\x12\x0d\
+    \x0a\x05value\x18\x02 \x01(\x09:\x028\x01*\x04\x08\x05\x10\x06\"\x03\x0a\x01X*\x0d\x0a\x01E\x12\
+    \x08\x0a\x04ZERO\x10\x00:\x11\x0a\x01x\x12\x02.M\x18\x05 \x01(\x0a2\x02.X";
 
 /// A list with a packed option in front of one without, a default, a closed enum, a map's entry, and an extension with a
 /// smaller number than the fields.
 #[test]
 fn linked_proto2(rt: HostRuntime) -> Result<(), Fail> {
-    let file = FileDescriptorProto::decode(rt.alloc(), FORMS)?;
-    let flat = flattened(rt.alloc(), &[&file])?;
-    let Resolved {
-        entries,
-        fields,
-        extensions,
-        ..
-    } = all_resolved(rt.alloc(), &flat)?;
-    let fields = meanings_by_message(rt.alloc(), fields)?;
-    let extensions = meanings(rt.alloc(), extensions)?;
-    let (messages, enums) = linked(
-        rt.alloc(),
-        flat,
-        fields,
-        extensions.as_slice(),
-        entries.as_slice(),
-    )?;
+    let tables = pool_of(rt.alloc(), &[FORMS])?.tables();
     assert!(rt;
-        shown(rt.alloc(), &messages, &enums)?.as_str()
-            == "M false: 5 x Message(1) Optional extension true group true packed false presence true None None; 7 e Enum(0) Required extension false group false packed false presence true Some(EnumNumber(0)) None; 8 l Int32 Repeated extension false group false packed false presence false None None; 9 p Int32 Repeated extension false group false packed true presence false None None; Entry true: 1 key String Optional extension false group false packed false presence true None None; E 0 closed true; "
+        shown(rt.alloc(), tables)?.as_str()
+            == "M false: 5 x Message(2) Optional extension true group true packed false presence true None None; 6 m Message(1) Repeated extension false group false packed false presence false None None; 7 e Enum(0) Required extension false group false packed false presence true Some(EnumNumber(0)) None; 8 l Int32 Repeated extension false group false packed false presence false None None; 9 p Int32 Repeated extension false group false packed true presence false None None; M.MEntry true: 1 key String Optional extension false group false packed false presence true None None; 2 value String Optional extension false group false packed false presence true None None; X false: E 0 closed true; "
     );
     Ok(())
 }
@@ -279,11 +269,9 @@ static SECOND: &[u8] = b"\x0a\x07p.proto\x12\x01p\x22\x65\x0a\x01A\x1a\x4d\x0a\x
 /// A nested message, its fields, an extension that is declared around it, a oneof, an enum and a value of the second file.
 #[test]
 fn linked_identities(rt: HostRuntime) -> Result<(), Fail> {
-    let first = FileDescriptorProto::decode(rt.alloc(), FIRST)?;
-    let second = FileDescriptorProto::decode(rt.alloc(), SECOND)?;
-    let (tables, _) = build_tables(rt.alloc(), &[&first, &second])?;
+    let tables = pool_of(rt.alloc(), &[FIRST, SECOND])?.tables();
     assert!(rt;
-        shown_identities(rt.alloc(), &tables)?.as_str()
+        shown_identities(rt.alloc(), tables)?.as_str()
             == "0 None [4, 0] M M; 1 None [4, 0] p.A A; 1 Some(1) [4, 0, 3, 0] p.A.B B; 1 Some(2) [4, 0, 3, 0, 2, 0] p.A.B.my_field my_field other; 1 Some(2) [4, 0, 3, 0, 2, 1] p.A.B.member member member; 1 Some(1) [4, 0, 6, 0] p.A.x x [p.A.x]; 1 Some(2) [4, 0, 3, 0, 8, 0] p.A.B.choice choice; 1 Some(2) [4, 0, 3, 0, 4, 0] p.A.B.E E; 1 Some(2) [4, 0, 3, 0, 4, 0, 2, 0] p.A.B.ZERO ZERO"
     );
     Ok(())
@@ -302,19 +290,12 @@ static TOP: &[u8] =
     \x0a\x0ainner_note\x12\x07.b.Base\x18e \x01(\x05:\x15\x0a\x04note\x12\x07.b.Base\x18d \x01\
     (\x052!\x0a\x04Post\x12\x19\x0a\x04Send\x12\x08.t.Outer\x1a\x07.b.Base";
 
-/// The catalog of both files; the one that is imported stands behind.
-fn both_files(alloc: Global) -> Result<Catalog, Fail> {
-    let top = FileDescriptorProto::decode(alloc, TOP)?;
-    let base = FileDescriptorProto::decode(alloc, BASE)?;
-    let (_, catalog) = build_tables(alloc, &[&top, &base])?;
-    Ok(catalog)
-}
-
 /// Whether the first file holds what `top.proto` does, and depends on the second, which has the third message.
 fn lists_files(catalog: &Catalog) -> bool {
-    let [top, base] = catalog.files.as_slice() else {
+    if catalog.files.len() != 2 {
         return false;
-    };
+    }
+    let (top, base) = (&catalog.files[0], &catalog.files[1]);
     let lists = [
         (top.messages.as_slice(), [0].as_slice()),
         (top.enums.as_slice(), &[]),
@@ -339,9 +320,10 @@ fn places_are(rows: &[(&[usize], &[usize])]) -> bool {
 
 /// Whether the messages `Outer`, `Inner` and `Base` hold what is declared in them.
 fn lists_messages(catalog: &Catalog) -> bool {
-    let [outer, _, base] = catalog.messages.as_slice() else {
+    if catalog.messages.len() != 3 {
         return false;
-    };
+    }
+    let (outer, base) = (&catalog.messages[0], &catalog.messages[2]);
     let lists = [
         (outer.messages.as_slice(), [1].as_slice()),
         (outer.enums.as_slice(), &[0]),
@@ -358,9 +340,10 @@ fn lists_messages(catalog: &Catalog) -> bool {
 
 /// Whether what is found by names and numbers stands in their order.
 fn orders_by_names_and_numbers(catalog: &Catalog) -> bool {
-    let [mood] = catalog.enums.as_slice() else {
+    if catalog.enums.len() != 1 {
         return false;
-    };
+    }
+    let mood = &catalog.enums[0];
     let lists = [
         (mood.by_name.as_slice(), [2, 1, 0].as_slice()),
         (mood.by_number.as_slice(), &[1, 0, 2]),
@@ -373,9 +356,10 @@ fn orders_by_names_and_numbers(catalog: &Catalog) -> bool {
 
 /// Whether `inner_note` and `note` are the fields 1 and 0 of `Base`.
 fn says_what_is_extended(catalog: &Catalog) -> bool {
-    let [inner_note, note] = catalog.extensions.as_slice() else {
+    if catalog.extensions.len() != 2 {
         return false;
-    };
+    }
+    let (inner_note, note) = (&catalog.extensions[0], &catalog.extensions[1]);
     let places = [
         inner_note.message,
         inner_note.field,
@@ -387,21 +371,23 @@ fn says_what_is_extended(catalog: &Catalog) -> bool {
 
 /// Whether `Send` of `Post` leads from `Outer` to `Base`.
 fn says_what_is_called(catalog: &Catalog) -> bool {
-    let [post] = catalog.services.as_slice() else {
+    if catalog.services.len() != 1 {
         return false;
-    };
+    }
+    let post = &catalog.services[0];
     let [send] = post.methods.as_slice() else {
         return false;
     };
     post.id.full_name.as_str() == "t.Post" && send.input == 0 && send.output == 2
 }
 
+/// The file that is imported stands behind the one that imports it.
 #[test]
 fn catalog_of_two_files(rt: HostRuntime) -> Result<(), Fail> {
-    let catalog = both_files(rt.alloc())?;
-    assert!(rt; lists_files(&catalog));
-    assert!(rt; lists_messages(&catalog));
-    assert!(rt; orders_by_names_and_numbers(&catalog));
-    assert!(rt; says_what_is_extended(&catalog) && says_what_is_called(&catalog));
+    let catalog = pool_of(rt.alloc(), &[TOP, BASE])?.catalog();
+    assert!(rt; lists_files(catalog));
+    assert!(rt; lists_messages(catalog));
+    assert!(rt; orders_by_names_and_numbers(catalog));
+    assert!(rt; says_what_is_extended(catalog) && says_what_is_called(catalog));
     Ok(())
 }

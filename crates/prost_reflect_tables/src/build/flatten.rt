@@ -1,9 +1,9 @@
 //! The definitions of files in flat lists, each with its full name, its path and what encloses it.
 
-ghost use Rattle.std.specs.Prelude.{◌≡◌, ◌++◌, ◌∷◌, [], pos, length, IfOk, OnOk, map};
+ghost use Rattle.std.specs.Prelude.{◌≡◌, ◌+◌, ◌++◌, ◌∷◌, [], pos, length, IfOk, OnOk, map};
 ghost use Rattle.prost_reflect_types.specs.declared.DescriptorProto.TheViews.{out-DescriptorProto};
-ghost use Rattle.prost_reflect_tables.specs.Flat.{defined, defined_from, field_name, oneof_name, value_name, method_name, enum_at, enums_from, service_at, services_from, own_message, message_at, with_given, is_proto3, behind, file_at, flattened};
-ghost use Rattle.prost_reflect_tables.specs.FlatViews.{scope_row, definition_row, lent_row, message_row, enum_row, service_row, flat_rows};
+ghost use Rattle.prost_reflect_tables.specs.Flat.{defined, defined_from, field_name, oneof_name, value_name, method_name, enum_at, enums_from, service_at, services_from, own_message, message_at, with_given, is_proto3, behind, file_at, files_from};
+ghost use Rattle.prost_reflect_tables.specs.FlatViews.{scope_row, definition_row, lent_row, message_row, enum_row, service_row, file_list, flat_rows};
 
 use crate::build::names::{joined, text_or_empty};
 use prost_reflect_types::{
@@ -109,6 +109,8 @@ pub struct FlatService<'a> {
 /// The definitions of files, by file and then by path.
 #[derive(Drop)]
 pub struct Flat<'a> {
+    /// How many messages of other files stand in front of these.
+    pub before: usize,
     /// The messages, nested ones too.
     pub messages: Vec<FlatMessage<'a>>,
     /// The enums, nested ones too.
@@ -117,6 +119,21 @@ pub struct Flat<'a> {
     pub extensions: Vec<Definition<'a, FieldDescriptorProto>>,
     /// The services.
     pub services: Vec<FlatService<'a>>,
+}
+
+impl<'a> Flat<'a> {
+    /// The place of the next message.
+    ///
+    /// # Errors
+    ///
+    /// `AllocError` if the place passes the greatest `usize`, as no memory holds so many messages.
+    fn next_place(&self) -> Result<usize, AllocError>
+        ensures { IfOk result (λ n. n ≡ self.now.before + length self.now.messages.items) }
+    {
+        self.before
+            .checked_add(self.messages.len())
+            .ok_or(AllocError)
+    }
 }
 
 /// A path with the number of a record's field and the place in its list behind.
@@ -331,9 +348,10 @@ fn add_message<'a>(
     place: usize,
     proto: &'a DescriptorProto,
 ) -> Result<(), AllocError>
-    ensures { OnOk result (with_given (flat_rows flat.old) (message_at proto.now (scope_row scope.now) number place (length flat.old.messages.items)) ≡ flat_rows flat.new) }
+    ensures added { OnOk result (with_given (flat_rows flat.old) (message_at proto.now (scope_row scope.now) number place (flat.old.before + length flat.old.messages.items)) ≡ flat_rows flat.new) }
+    ensures before { flat.new.before ≡ flat.old.before }
 {
-    let before = flat.messages.len();
+    let before = flat.next_place()?;
     let message = flat_message(alloc, scope, number, place, before, proto)?;
     let full_name = message.definition.full_name.clone()?;
     let path = message.definition.path.to_vec(alloc)?;
@@ -379,7 +397,8 @@ fn add_file<'a>(
     file: usize,
     proto: &'a FileDescriptorProto,
 ) -> Result<(), AllocError>
-    ensures { OnOk result (behind (flat_rows flat.old) (file_at proto.now file (length flat.old.messages.items)) ≡ flat_rows flat.new) }
+    ensures added { OnOk result (behind (flat_rows flat.old) (file_at proto.now file (flat.old.before + length flat.old.messages.items)) ≡ flat_rows flat.new) }
+    ensures before { flat.new.before ≡ flat.old.before }
 {
     let scope = Scope {
         name: text_or_empty(&proto.package),
@@ -415,24 +434,28 @@ fn add_file<'a>(
     Ok(())
 }
 
-/// The definitions of files, by file and then by path.
+/// The definitions of files, by file and then by path, where the first file is at a place, behind so many messages.
 ///
 /// # Errors
 ///
-/// `AllocError` if out of memory.
+/// `AllocError` if out of memory, or if a place passes the greatest `usize`, as no memory holds so many definitions.
 pub fn flattened<'a>(
     alloc: Global,
+    first: usize,
+    before: usize,
     files: &[&'a FileDescriptorProto],
 ) -> Result<Flat<'a>, AllocError>
-    ensures { IfOk result (λ f. flat_rows f ≡ flattened (map (λ file. file.now) files.now)) }
+    ensures { IfOk result (λ f. flat_rows f ≡ files_from (file_list files.now) first before) }
 {
     let mut flat = Flat {
+        before,
         messages: Vec::new(alloc),
         enums: Vec::new(alloc),
         extensions: Vec::new(alloc),
         services: Vec::new(alloc),
     };
-    for (file, proto) in files.iter().enumerate() {
+    for (offset, proto) in files.iter().enumerate() {
+        let file = first.checked_add(offset).ok_or(AllocError)?;
         add_file(alloc, &mut flat, file, proto)?;
     }
     Ok(flat)

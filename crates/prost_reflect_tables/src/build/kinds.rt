@@ -1,19 +1,12 @@
-//! The kinds of fields, by the type codes and the names that their definitions write, and their defaults.
+//! The kinds of fields, by the type codes and the names that their definitions write.
 
-ghost use Rattle.std.specs.Prelude.{◌≡◌, IfOk, IsSome, IsSomeAnd, option_map, unwrap_or};
+ghost use Rattle.std.specs.Prelude.{◌≡◌, IsSome, IsSomeAnd, unwrap_or};
 ghost use Rattle.prost_reflect_wire.specs.Schema.{is_packable as scalar_packable};
-ghost use Rattle.prost_reflect_tables.specs.FlatViews.{flat_rows};
-ghost use Rattle.prost_reflect_tables.specs.Indexed.{IsIndex};
-ghost use Rattle.prost_reflect_tables.specs.Linking.{links_of, natural_or_zero, place_in, kind_of_code, is_packable, linked_default};
-ghost use Rattle.prost_reflect_tables.specs.Rows.{written_scalar};
+ghost use Rattle.prost_reflect_tables.specs.Linking.{natural_or_zero, place_in, kind_of_code, is_packable};
 ghost use Rattle.prost_reflect_tables.specs.WrittenDefaults.{plain_kind};
 
-use crate::build::defaults::written_default;
-use crate::build::flatten::Flat;
-use crate::build::index::{Index, number_named};
-use crate::tables::{TableKind, WrittenDefault};
+use crate::tables::TableKind;
 use prost_reflect_types::FieldDescriptorProto;
-use std::alloc::{AllocError, Global};
 
 /// A number that is absent or negative counts as 0.
 pub fn natural_or_zero(number: Option<i32>) -> u32
@@ -61,7 +54,7 @@ fn kind_of_code(message: usize, enumeration: usize, code: u32) -> TableKind
 }
 
 /// The kind of a field whose type's name names the message and the enum of these places. One that names none counts as the first.
-pub(crate) fn linked_kind(
+pub fn linked_kind(
     message: Option<usize>,
     enumeration: Option<usize>,
     field: &FieldDescriptorProto,
@@ -84,28 +77,4 @@ pub fn is_packable(kind: TableKind) -> bool
         kind,
         TableKind::String | TableKind::Bytes | TableKind::Message(_)
     )
-}
-
-/// The default that a field's definition writes.
-///
-/// # Errors
-///
-/// `AllocError` if out of memory.
-pub(crate) fn linked_default(
-    alloc: Global,
-    index: &Index,
-    flat: &Flat,
-    kind: TableKind,
-    text: &Option<String>,
-) -> Result<Option<WrittenDefault>, AllocError>
-    requires { IsIndex index.now (flat_rows flat.now) }
-    ensures { IfOk result (λ d. option_map written_scalar d ≡ linked_default (links_of (flat_rows flat.now)) kind text.now) }
-{
-    match text {
-        Some(text) => {
-            let number = number_named(index, flat, kind, text.as_str());
-            written_default(alloc, kind, number, text.as_str())
-        }
-        None => Ok(None),
-    }
 }

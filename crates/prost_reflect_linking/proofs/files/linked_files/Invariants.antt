@@ -1,8 +1,11 @@
-use Rattle.std.specs.Prelude.{◌≡◌, ◌++◌}
-use Rattle.prost_reflect_linking.proofs.Common.{map, drop, file_names, file_list, flat_rows, file_table_row, each_from, linked_file}
+use Rattle.std.specs.Prelude.{◌≡◌, ◌+◌, ◌++◌}
+use Rattle.prost_reflect_linking.proofs.Common.{map, drop, length, file_names, file_list, flat_rows, file_table_row, each_from}
+use Rattle.prost_reflect_base.specs.Below.{files_below, rows_below, catalog_below}
+use Rattle.prost_reflect_growth.specs.CatalogGrow.{added_file}
 use Rattle.prost_reflect_linking.proofs.files.linked_files.Given as goal
 
 abbrev pub invariant-loop-place : goal.invariant-loop-place
 invariant-loop-place l =
-    map file_table_row l.tables.items ++ each_from (linked_file (file_names (file_list l.files)) (flat_rows l.flat)) l.place (file_list (drop l.place l.files))
-    ≡ each_from (linked_file (file_names (file_list l.files)) (flat_rows l.flat)) 0 (file_list l.files)
+    let table = added_file (file_names (files_below l.base ++ file_list l.files)) (rows_below l.base) (flat_rows l.flat) in
+    map file_table_row l.tables ++ each_from table (length (files_below l.base) + l.place) (file_list (drop l.place l.files))
+    ≡ (catalog_below l.base).files ++ each_from table (length (files_below l.base)) (file_list l.files)

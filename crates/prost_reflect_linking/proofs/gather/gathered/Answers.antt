@@ -1,14 +1,16 @@
-use Rattle.prost_reflect_linking.proofs.Common.{◌∙◌, ap, refl, arith, says_at, behind, behind_empty, gathered_more, gathered_all}
+use Rattle.prost_reflect_linking.proofs.Common.{◌∙◌, refl, arith, rules, says_at}
+use Rattle.std.proofs.lemmas.List.{drop_all}
+use Rattle.prost_reflect_linking.proofs.GatheredFrom.{gathered_none, gathered_more, gathered_all}
 use Rattle.prost_reflect_linking.proofs.gather.gathered.Goals as goal
 
-pub loop-place-init : goal.loop-place-init
-loop-place-init g c = λ o is. ap (behind o 0 c.args.items.now 0) c.in_ok-lists.ensures ∙ behind_empty o c.args.items.now 0 c.args.count
+pub loop-offset-init : goal.loop-offset-init
+loop-offset-init g c = λ o is. gathered_none o c.args.start c.args.items.now c.args.first c.args.count _ c.in_ok-lists.ensures
 
-pub loop-place-preserved : goal.loop-place-preserved
-loop-place-preserved g c = λ o is.
-    let told = is c.index-items-place.result c.owner.result (says_at g.F.Fn c.owner.ensures refl) in
-    gathered_more o c.args.items.now c.loop-place.place c.index-items-place.result c.owner.result _ _ c.loop-place-test.true c.index-items-place.is told c.in_ok-add_item.ensures
-    ∙ c.loop-place.invariant o is
+pub loop-offset-preserved : goal.loop-offset-preserved
+loop-offset-preserved g c = λ o is.
+    let told = is c.index-items-offset.result c.owner.result (says_at g.F.Fn c.owner.ensures refl) in
+    gathered_more o c.args.start c.args.first c.args.items.now c.loop-offset.offset c.index-items-offset.result _ c.owner.result _ _ c.loop-offset-test.true c.index-items-offset.is (search rules) told c.in_ok-add_place.ensures
+    ∙ c.loop-offset.invariant o is
 
 pub returns : goal.returns
-returns g c = λ o is. gathered_all o c.args.items.now c.loop-place.place _ (omega (arith, c.loop-place-test.false)) ∙ c.loop-place.invariant o is
+returns g c = λ o is. gathered_all o _ c.args.first c.args.items.now _ _ (drop_all c.loop-offset.offset c.args.items.now (omega (arith, c.loop-offset-test.false))) ∙ c.loop-offset.invariant o is

@@ -8,5 +8,5 @@ use Rattle.prost_reflect_linking.proofs.link.add_extensions.Given as goal
 
 abbrev pub invariant-loop-definition : goal.invariant-loop-definition
 invariant-loop-definition l =
-    grouped (λ p. p.1.extendee) (field_meant true) (zip (map definition_row (iter_rest (zip_first l.definition-iterator))) (map meaning_row (iter_rest (zip_second l.definition-iterator)))) 0 (list_rows l.lists.items)
-    ≡ grouped (λ p. p.1.extendee) (field_meant true) (zip (map definition_row l.definitions) (map meaning_row l.meanings)) 0 (list_rows l.fn.lists.items)
+    grouped (λ p. p.1.extendee) (field_meant true) (zip (map definition_row (iter_rest (zip_first l.definition-iterator))) (map meaning_row (iter_rest (zip_second l.definition-iterator)))) l.first (list_rows l.lists.items)
+    ≡ grouped (λ p. p.1.extendee) (field_meant true) (zip (map definition_row l.definitions) (map meaning_row l.meanings)) l.first (list_rows l.fn.lists.items)

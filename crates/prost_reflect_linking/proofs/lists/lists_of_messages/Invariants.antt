@@ -1,12 +1,22 @@
-use Rattle.std.specs.Prelude.{◌≡◌, ◌++◌}
-use Rattle.prost_reflect_linking.proofs.Common.{map, drop, message_lists_row, each_from, linked_lists}
-use Rattle.prost_reflect_tables.specs.Rows.{message_row}
+use Rattle.std.specs.Prelude.{◌≡◌, ◌++◌, ◌≤◌}
+use Rattle.prost_reflect_linking.proofs.Common.{map, drop, length, message_lists_row, each_from}
+use Rattle.prost_reflect_base.specs.Below.{rows_below, tables_below, catalog_below}
+use Rattle.prost_reflect_growth.specs.CatalogGrow.{added_lists, grown_lists_from}
+use Rattle.prost_reflect_growth.specs.RowsGrow.{added_messages}
+use Rattle.prost_reflect_tables.specs.Schema.{rows_of}
 use Rattle.prost_reflect_linking.proofs.lists.lists_of_messages.Given as goal
 
 abbrev pub invariant-loop-place : goal.invariant-loop-place
-invariant-loop-place g l =
-    map message_lists_row l.lists.items ++ each_from (linked_lists g.rows) l.place (map message_row (drop l.place l.messages))
-    ≡ each_from (linked_lists g.rows) 0 (map message_row l.messages)
+invariant-loop-place g l = record {
+  past : length (rows_below l.base).messages ≤ l.place;
+  made :
+      map message_lists_row l.lists ++ each_from (added_lists (rows_below l.base) g.new) l.place (drop l.place (rows_of l.tables).messages)
+      ≡ grown_lists_from (rows_below l.base) g.new 0 (tables_below l.base).messages (catalog_below l.base).messages
+      ++ each_from (added_lists (rows_below l.base) g.new) (length (rows_below l.base).messages) (added_messages (rows_below l.base) g.new);
+}
 
-abbrev pub ghost-message_lists : goal.ghost-message_lists
-ghost-message_lists g a = g.rows
+abbrev pub ghost-added_lists : goal.ghost-added_lists
+ghost-added_lists g a = g.new
+
+abbrev pub ghost-lists_of_old_messages : goal.ghost-lists_of_old_messages
+ghost-lists_of_old_messages g a = g.new

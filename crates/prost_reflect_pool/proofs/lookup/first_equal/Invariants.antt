@@ -1,5 +1,5 @@
 use Rattle.std.specs.Prelude.{◌-◌, ◌≤◌}
-use Rattle.prost_reflect_pool.proofs.Common.{ℕ, length, ordering_index, Ordering, IsNonDecreasingBy}
+use Rattle.prost_reflect_pool.proofs.Common.{length, ordering_index, Ordering, IsNonDecreasingBy}
 use Rattle.prost_reflect_tables.specs.Walks.{Computes}
 use Rattle.prost_reflect_pool.proofs.Searching.{Between}
 use Rattle.prost_reflect_pool.proofs.lookup.first_equal.Given as goal
@@ -8,7 +8,7 @@ abbrev pub invariant-loop-low : goal.invariant-loop-low
 invariant-loop-low g l = record {
   low : l.low ≤ l.high;
   high : l.high ≤ length l.places;
-  between : (o : ℕ → Ordering) → Computes g.C.Fn l.compare o → IsNonDecreasingBy (λ p. ordering_index (o p)) l.places → Between o l.places l.low l.high;
+  between : (o : _ → Ordering) → Computes g.C.Fn l.compare o → IsNonDecreasingBy (λ p. ordering_index (o p)) l.places → Between o l.places l.low l.high;
 }
 
 abbrev pub decreases-loop-low : goal.decreases-loop-low

@@ -1,5 +1,4 @@
-use Rattle.prost_reflect_pool.proofs.Common.{rules, refl, ◌∙◌, FieldRow, field_row}
-use Rattle.prost_reflect_pool.proofs.InCatalog.{text_there, no_text}
+use Rattle.prost_reflect_pool.proofs.Common.{rules, refl, ◌∙◌, FieldRow, field_row, text_there, no_text}
 use Rattle.prost_reflect_pool.proofs.lookup.json_name.Goals as goal
 
 pub returns-in-Some : goal.returns-in-Some

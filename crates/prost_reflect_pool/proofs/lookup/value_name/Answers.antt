@@ -1,5 +1,5 @@
-use Rattle.prost_reflect_pool.proofs.Common.{rules, refl, ◌∙◌, enum_value_row}
-use Rattle.prost_reflect_pool.proofs.InCatalog.{value_name, text_there, no_text}
+use Rattle.prost_reflect_pool.proofs.Common.{rules, refl, ◌∙◌, enum_value_row, text_there, no_text}
+use Rattle.prost_reflect_pool.proofs.InCatalog.{value_name}
 use Rattle.prost_reflect_pool.proofs.lookup.value_name.Goals as goal
 
 pub returns-in-Some : goal.returns-in-Some

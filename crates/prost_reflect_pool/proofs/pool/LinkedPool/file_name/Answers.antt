@@ -1,5 +1,5 @@
-use Rattle.prost_reflect_pool.proofs.Common.{rules, ap, Global, ◌∙◌, Rc, FileDescriptorProto}
-use Rattle.prost_reflect_pool.proofs.InCatalog.{file_name, text_there, no_text}
+use Rattle.prost_reflect_pool.proofs.Common.{rules, ap, Global, ◌∙◌, Rc, FileDescriptorProto, text_there, no_text}
+use Rattle.prost_reflect_pool.proofs.InCatalog.{file_name}
 use Rattle.prost_reflect_pool.proofs.pool.LinkedPool.file_name.Goals as goal
 
 pub returns-in-Some : goal.returns-in-Some

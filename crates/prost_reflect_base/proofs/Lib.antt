@@ -1,0 +1,7 @@
+mod Lists
+mod Scopes
+mod NamesInside
+mod Linked
+mod Numbers
+mod FullNames
+mod NamedPlaces

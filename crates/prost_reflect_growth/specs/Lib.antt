@@ -1,0 +1,11 @@
+pub mod Growth
+pub mod Stays
+pub mod RowsGrow
+pub mod Untouched
+pub mod ChecksGrow
+pub mod TablesGrow
+pub mod NumbersKnown
+pub mod Merging
+pub mod ExtensionsGrow
+pub mod CatalogGrow
+pub mod GrownCatalog

@@ -1,0 +1,19 @@
+//! What becomes of the flat lists, the tables and the catalog of files that pass all checks, where files are added to them.
+//!
+//! `laws` says what stays, so that nothing old has to be made anew: old definitions mean what they did, the faults of all files
+//! together are tests of the added definitions, and the rows and lists of all are those of the old ones, with what the added ones
+//! put among them and behind them. Old files, enums and services keep theirs, and so does each message that none further extends.
+//! Each law is the contract of a function without a body; the statements stand in `specs/`, and the lemmas in `proofs/` are open
+//! to the crates above.
+//!
+//! Begin with `laws`: `rows_grow`, `checks_grow` and `catalog_grows` are what the others lead to. `grown_message` computes the
+//! row of an old message with further extensions, `moved_extension` where those that it has move, and `merged` puts what is
+//! added among what stands in order.
+#![tactic(auto)]
+
+pub mod laws;
+mod merge;
+mod rows;
+
+pub use merge::merged;
+pub use rows::{grown_message, moved_extension, sort_by_number};

@@ -1,0 +1,4 @@
+mod Common
+mod NamePlaces
+mod EnumNumbers
+pub mod LookedUp

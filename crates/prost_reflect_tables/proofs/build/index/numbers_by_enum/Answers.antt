@@ -1,8 +1,0 @@
-use Rattle.prost_reflect_tables.proofs.EnumNumbers.{numbers_more}
-use Rattle.prost_reflect_tables.proofs.build.index.numbers_by_enum.Goals as goal
-
-pub loop-declared-preserved : goal.loop-declared-preserved
-loop-declared-preserved c =
-    rw c.in_ok-push.ensures.items
-    (numbers_more c.loop-declared.numbers.items c.in_ok-numbers_by_name.field-0 c.args.enums.now c.loop-declared.declared-index c.declared-item.result c.loop-declared-test.true c.declared-item.is
-    c.loop-declared.invariant (rw (← c.as_slice.ensures.value) c.in_ok-numbers_by_name.ensures))

@@ -1,5 +1,0 @@
-use Rattle.prost_reflect_tables.proofs.Common.{map, take, enum_row, linked_value, AreNumbersOf}
-use Rattle.prost_reflect_tables.proofs.build.index.numbers_by_enum.Given as goal
-
-abbrev pub invariant-loop-declared : goal.invariant-loop-declared
-invariant-loop-declared l = AreNumbersOf l.numbers.items (map (λ e. map linked_value e.values) (map enum_row (take l.declared-index l.enums)))

@@ -1,6 +1,0 @@
-use Rattle.prost_reflect_tables.proofs.Common.{definition_row, flat_rows, links_of}
-use Rattle.prost_reflect_tables.proofs.Resolving.{resolved_is}
-use Rattle.prost_reflect_tables.proofs.build.resolve.resolved_field.Goals as goal
-
-pub returns : goal.returns
-returns c = resolved_is (links_of (flat_rows c.args.flat.now)) (definition_row c.args.definition.now) _ c.lend.ensures c.message_place.ensures c.message_place-message.ensures c.enum_place-enumeration.ensures c.linked_kind-kind.ensures c.in_ok-linked_default.ensures

@@ -1,8 +1,0 @@
-use Rattle.std.specs.Prelude.{◌≡◌, ◌++◌}
-use Rattle.prost_reflect_tables.proofs.Common.{drop, map, message_row, flat_rows, links_of, resolve, resolved_lists}
-use Rattle.prost_reflect_tables.proofs.build.resolve.resolved_fields.Given as goal
-
-abbrev pub invariant-loop-message : goal.invariant-loop-message
-invariant-loop-message l =
-    resolved_lists l.lists.items ++ map (λ m. map (resolve (links_of (flat_rows l.flat))) m.fields) (map message_row (drop l.message-index l.messages))
-    ≡ map (λ m. map (resolve (links_of (flat_rows l.flat))) m.fields) (map message_row l.messages)

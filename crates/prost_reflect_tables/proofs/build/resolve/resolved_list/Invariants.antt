@@ -1,8 +1,0 @@
-use Rattle.std.specs.Prelude.{◌≡◌, ◌++◌}
-use Rattle.prost_reflect_tables.proofs.Common.{drop, map, definition_row, flat_rows, links_of, resolve, resolved_row}
-use Rattle.prost_reflect_tables.proofs.build.resolve.resolved_list.Given as goal
-
-abbrev pub invariant-loop-definition : goal.invariant-loop-definition
-invariant-loop-definition l =
-    map resolved_row l.fields.items ++ map (resolve (links_of (flat_rows l.flat))) (map definition_row (drop l.definition-index l.definitions))
-    ≡ map (resolve (links_of (flat_rows l.flat))) (map definition_row l.definitions)
