@@ -1,9 +1,14 @@
 //! Values that are taken, shown or made in one place and set in another, with no test between that could fail.
 
-ghost use Rattle.std.specs.Prelude.{◌≡◌, false, true, IfOk};
+ghost use Rattle.std.specs.Prelude.{◌≡◌, false, true, IfOk, Some, option_map};
+ghost use Rattle.prost_reflect_dynamic.specs.Access.{IsOwnField};
+ghost use Rattle.prost_reflect_dynamic.specs.NamedField.{row_at};
+ghost use Rattle.prost_reflect_dynamic.specs.View.{message_type_of};
 
 use crate::programs::error::ClientError;
-use prost_reflect::{DynamicMessage, FieldDescriptor, MessageDescriptor, Value, laws};
+use prost_reflect::{
+    DynamicMessage, FieldDescriptor, MessageDescriptor, OneofDescriptor, Value, laws,
+};
 use std::alloc::{AllocError, Global};
 
 /// Takes the field of a number out of a message that was read, sets it in another, and writes that.
@@ -155,16 +160,37 @@ pub fn has_two_members(
 ) -> Result<bool, AllocError>
     ensures { IfOk result (λ both. both ≡ false) }
 {
-    laws::one_member(message);
-    if !message.owns_field(one) || !message.owns_field(other) || one.number() == other.number() {
+    if !message.owns_field(one) || !message.owns_field(other) {
         return Ok(false);
     }
-    if let (Some(first), Some(second)) = (one.containing_oneof()?, other.containing_oneof()?) {
-        if first == second {
-            return Ok(message.has_field(one) && message.has_field(other));
-        }
+    let Some(first) = one.containing_oneof()? else {
+        return Ok(false);
+    };
+    let Some(second) = other.containing_oneof()? else {
+        return Ok(false);
+    };
+    Ok(has_both(message, one, &first, other, &second))
+}
+
+/// Whether a message has both of two fields of its own type, where their oneofs, which stand behind each, are one.
+fn has_both(
+    message: &DynamicMessage,
+    one: &FieldDescriptor,
+    first: &OneofDescriptor,
+    other: &FieldDescriptor,
+    second: &OneofDescriptor,
+) -> bool
+    requires one { IsOwnField (message_type_of message.now) one.now }
+    requires first { option_map (λ field. field.oneof) (row_at one.now) ≡ Some (Some first.now.index) }
+    requires other { IsOwnField (message_type_of message.now) other.now }
+    requires second { option_map (λ field. field.oneof) (row_at other.now) ≡ Some (Some second.now.index) }
+    ensures { result ≡ false }
+{
+    laws::one_member(message);
+    if one.number() == other.number() || first != second {
+        return false;
     }
-    Ok(false)
+    message.has_field(one) && message.has_field(other)
 }
 
 /// Reads, clears a field of the message in the field of another number, and writes.
