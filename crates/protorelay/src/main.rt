@@ -2,15 +2,7 @@
 //! present: `protorelay relay|show SET NAME HEX | edit SET NAME HEX PATH TEXT`.
 #![tactic(auto)]
 
-mod command;
-mod edit;
-mod path;
-mod reading;
-mod refusal;
-mod relay;
-pub mod run;
-mod show;
-
+use protorelay_commands::{refuse_words, run};
 use std::env::Env;
 use std::process::ExitCode;
 use std::{env, io};
@@ -24,8 +16,8 @@ fn words<R: Env + AllocGlobal>(rt: &R) -> io::Result<Vec<String>> {
 
 fn main(rt: HostRuntime) -> ExitCode {
     let status = match words(&rt) {
-        Ok(words) => run::run(words.as_slice(), &mut rt.stdout(), &mut rt.stderr()),
-        Err(error) => run::refuse_words(&error, &mut rt.stderr()),
+        Ok(words) => run(words.as_slice(), &mut rt.stdout(), &mut rt.stderr()),
+        Err(error) => refuse_words(&error, &mut rt.stderr()),
     };
     ExitCode::from(status)
 }

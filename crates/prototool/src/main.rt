@@ -3,19 +3,9 @@
 //! DIGITS]`. SET, OLDER and NEWER are files with descriptor sets, or `-` for the built-in one.
 #![tactic(auto)]
 
-mod answer;
-mod command;
-mod compare;
-mod decoding;
-mod input;
-mod print;
-mod redact;
-mod refusal;
-mod run;
-mod types;
-
+use prototool_commands::run;
 use std::process::ExitCode;
 
 fn main(rt: HostRuntime) -> ExitCode {
-    ExitCode::from(run::run(&rt))
+    ExitCode::from(run(&rt))
 }

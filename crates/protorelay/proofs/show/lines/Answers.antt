@@ -1,8 +1,0 @@
-use Rattle.std.proofs.Common.{ap, sym, ◌∙◌, ◌++◌, string_bytes, append-nil, drop_of_length-le}
-use Rattle.protorelay.specs.Showing.{lines}
-use Rattle.protorelay.proofs.show.lines.Goals as goal
-
-pub returns : goal.returns
-returns c =
-    let text = string_bytes c.loop-number.text in
-    sym (append-nil text) ∙ ap (λ numbers. text ++ lines numbers) (sym (drop_of_length-le c.args.numbers.now c.loop-number-test.false)) ∙ sym c.loop-number.invariant
