@@ -26,7 +26,7 @@ pub keys_appended : {K T : Type 0} (es ds : List (K × T)) → keys_of (es ++ ds
 keys_appended [] ds = refl
 keys_appended (e ∷ es) ds = ap (λ ks. e.0 ∷ ks) (keys_appended es ds)
 
-keys_of_parts : (es : List (ℕ × FieldSlot Value)) → keys_of (parts_of es) ≡ keys_of es
+pub keys_of_parts : (es : List (ℕ × FieldSlot Value)) → keys_of (parts_of es) ≡ keys_of es
 keys_of_parts [] = refl
 keys_of_parts (e ∷ es) = ap (λ ks. e.0 ∷ ks) (keys_of_parts es)
 

@@ -71,3 +71,4 @@ mod MergedBytes
 mod JoinedContents
 mod ChangedNumbers
 mod MessageParts
+mod PartCopies

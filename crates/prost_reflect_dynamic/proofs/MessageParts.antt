@@ -67,7 +67,7 @@ message_joined numbers m others p same replaced =
 abbrev pub part : BTreeSet ℕ → Slots → Slots
 part numbers es = put_chosen (is_chosen numbers true) [] es
 
-parts_put : (es : Slots) (n : ℕ) (e : FieldSlot Value) → parts_of (put_item es n e) ≡ put_item (parts_of es) n (entry_parts e)
+pub parts_put : (es : Slots) (n : ℕ) (e : FieldSlot Value) → parts_of (put_item es n e) ≡ put_item (parts_of es) n (entry_parts e)
 parts_put [] n e = refl
 parts_put (d ∷ es) n e = cases (nat_cmp n d.0) (parts_put es n e)
   where
@@ -78,22 +78,8 @@ parts_put (d ∷ es) n e = cases (nat_cmp n d.0) (parts_put es n e)
     cases Equal rest = refl
     cases Greater rest = ap (λ ps. (d.0, entry_parts d.1) ∷ ps) rest
 
-same_parts : (e d : FieldSlot Value) → SameSlot e d → entry_parts d ≡ entry_parts e
+pub same_parts : (e d : FieldSlot Value) → SameSlot e d → entry_parts d ≡ entry_parts e
 same_parts e d same = λ i. (same.value i, same.records i)
-
-module _ (numbers : BTreeSet ℕ) (fields done : Slots) (n : ℕ) (e : FieldSlot Value) (all : parts_of fields ≡ parts_of (part numbers done)) where
-  more : part numbers (done ++ (n, e) ∷ []) ≡ cond (has numbers n) (put_item (part numbers done) n e) (part numbers done)
-  more = chosen_last (is_chosen numbers true) [] done (n, e)
-
-  -- a slot was copied
-  pub slot_copied : (d : FieldSlot Value) → has numbers n ≡ true → SameSlot e d → parts_of (put_item fields n d) ≡ parts_of (part numbers (done ++ (n, e) ∷ []))
-  slot_copied d is same =
-      parts_put fields n d ∙ ap₂ (λ ps (q : Parts). put_item ps n q) all (same_parts e d same) ∙ sym (parts_put (part numbers done) n e)
-      ∙ ap parts_of (sym (more ∙ ap (λ b. cond b (put_item (part numbers done) n e) (part numbers done)) is))
-
-  -- or passed
-  pub slot_passed : has numbers n ≡ false → parts_of fields ≡ parts_of (part numbers (done ++ (n, e) ∷ []))
-  slot_passed is = all ∙ ap parts_of (sym (more ∙ ap (λ b. cond b (put_item (part numbers done) n e) (part numbers done)) is))
 
 -- what the copied slots keep
 pub part_kept : (numbers : BTreeSet ℕ) (a b : PooledType) (es fields : Slots) → SameMessage a b → IsAscending es → parts_of fields ≡ parts_of (part numbers es) → Sound (known_of a) es → Sound (known_of b) fields

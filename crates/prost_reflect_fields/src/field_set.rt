@@ -5,7 +5,7 @@ ghost use Rattle.std.specs.Borrow.{Lends, LendsIf, LendsIfOk, sem};
 ghost use Rattle.std.specs.Option.{option_copied, option_copied_mut};
 ghost use Rattle.prost_reflect_wire.specs.Unknown.{unknown_record};
 ghost use Rattle.prost_reflect_fields.specs.contracts.field_set.FieldSet.{the_row};
-ghost use Rattle.prost_reflect_maps.specs.Items.{IsAscending};
+ghost use Rattle.prost_reflect_maps.specs.Items.{IsAscending, item_at};
 ghost use Rattle.prost_reflect_fields.specs.Known.{known_of, is_known, is_listed, keeps_unknown, oneof_of};
 ghost use Rattle.prost_reflect_maps.specs.NumberSets.{AreReplaced};
 ghost use Rattle.prost_reflect_fields.specs.WholeOneofs.{HasWholeOneofs};
@@ -113,6 +113,28 @@ impl<V> FieldSet<V> {
         ensures sound { IsSound self.now.0 self.now.1 }
     {
         self.fields.iter()
+    }
+
+    /// What stands at the number.
+    pub fn slot(&self, number: u32) -> Option<&FieldSlot<V>>
+        ensures { option_copied result ≡ item_at self.now.1 number }
+    {
+        self.fields.get(number)
+    }
+
+    /// Whether nothing stands at any number.
+    pub fn is_empty(&self) -> bool
+        ensures { result ≡ true → self.now.1 ≡ [] }
+    {
+        matches!(self.fields.listed(), Some([]))
+    }
+
+    /// What stands at the numbers ascends and is sound. A call does nothing, but its caller may then count on it.
+    pub fn sound(&self)
+        ensures ascending { IsAscending self.now.1 }
+        ensures sound { IsSound self.now.0 self.now.1 }
+    {
+        self.fields.ascends();
     }
 
     /// What stands at each number, in descending order of the numbers.

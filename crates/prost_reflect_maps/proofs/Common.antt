@@ -2,7 +2,7 @@
 pub use Rattle.std.specs.BTreeMap.{is_at}
 pub use Rattle.std.specs.BTreeSet.{BTreeSet}
 pub use Rattle.std.specs.Cmp.{nat_cmp_total}
-pub use Rattle.std.specs.List.{AllByRecursion, AllWithin, HoldsAt, insert, remove}
+pub use Rattle.std.specs.List.{AllByRecursion, AllWithin, HoldsAt, insert, list_any, remove}
 pub use Rattle.std.specs.List.Sorted.{IsBinarySearchResult, IsNonDecreasingBy, IsSearchInRange}
 unfoldable pub use Rattle.std.specs.List.Sorted.{IsStrictlySortedBy}
 pub use Rattle.std.specs.Map.{AreApart, keys_of, values_of}
@@ -23,5 +23,5 @@ pub use Rattle.prost_reflect_wire.specs.Grammar.{last}
 pub use Rattle.prost_reflect_maps.specs.Held.{held_items}
 pub use Rattle.prost_reflect_maps.specs.Items.{IsAscending, first_above, first_from, item_at, item_copied, items_above, items_below, items_from, last_below, left_above, left_below, put_item, with_item, without_item}
 pub use Rattle.prost_reflect_maps.specs.ItemsLeft.{items_left, items_left_back}
-pub use Rattle.prost_reflect_maps.specs.NumberSets.{AreReplaced, chosen_up_to, has, is_up_to, left_beyond}
+pub use Rattle.prost_reflect_maps.specs.NumberSets.{AreReplaced, HavePlaces, chosen_up_to, has, has_place, is_among, is_up_to, left_beyond, taken_over}
 pub use Rattle.prost_reflect_maps.specs.Runs.{IsAhead, IsLaid, Runs, flat, marks, run_at}

@@ -3,6 +3,7 @@ pub mod Results
 pub mod Places
 pub mod ItemChanges
 mod Weaving
+pub mod Moving
 mod RunChanges
 mod Bounds
 mod Above

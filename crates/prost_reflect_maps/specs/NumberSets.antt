@@ -1,11 +1,16 @@
 -- Sets of numbers, and maps with what others have at such numbers.
-use Rattle.std.specs.Prelude.{◌≡◌, ℕ, Bool, true, not, if◌then◌else◌, List, [], ◌∷◌, Option, None, Some, nat_le}
+use Rattle.std.specs.Prelude.{◌≡◌, ℕ, Bool, true, false, not, if◌then◌else◌, List, [], ◌∷◌, Option, None, Some, nat_le}
 use Rattle.std.specs.Ordering.{nat_cmp}
+use Rattle.std.specs.BTreeMap.{is_at}
 use Rattle.std.specs.BTreeSet.{BTreeSet, contains}
-use Rattle.prost_reflect_maps.specs.Items.{IsAscending, item_at, put_item}
+use Rattle.std.specs.List.{list_any}
+use Rattle.prost_reflect_maps.specs.Items.{IsAscending, item_at, put_item, with_item, without_item}
 
 abbrev pub has : BTreeSet ℕ → ℕ → Bool
 has numbers n = contains nat_cmp numbers n
+
+abbrev pub is_among : List ℕ → ℕ → Bool
+is_among ks n = list_any (is_at (nat_cmp n)) ks
 
 -- In the set, or outside of it.
 abbrev pub is_chosen : BTreeSet ℕ → Bool → ℕ → Bool
@@ -31,6 +36,21 @@ module _ {T : Type 0} where
   abbrev pub left_beyond : Option ℕ → List (ℕ × T) → List (ℕ × T)
   left_beyond bound [] = []
   left_beyond bound (d ∷ ds) = if is_up_to bound d.0 then left_beyond bound ds else d ∷ ds
+
+  -- Whether an item, if there is one, has an old one to take the place of.
+  abbrev pub has_place : Option T → Option T → Bool
+  has_place None old = true
+  has_place (Some t) None = false
+  has_place (Some t) (Some u) = true
+
+  -- The items with this one in the place of that at the number, or without one there.
+  abbrev pub taken_over : Option T → List (ℕ × T) → ℕ → List (ℕ × T)
+  taken_over None es n = without_item es n
+  taken_over (Some t) es n = with_item es n t
+
+  -- What others have at the numbers has old items to take the place of.
+  abbrev pub HavePlaces : List ℕ → List (ℕ × T) → List (ℕ × T) → Type 0
+  HavePlaces ks old others = (n : ℕ) → is_among ks n ≡ true → has_place (item_at others n) (item_at old n) ≡ true
 
   -- At the numbers of the set what others have, and elsewhere what was there.
   pub record AreReplaced (numbers : BTreeSet ℕ) (old others new : List (ℕ × T)) : Type 0 where

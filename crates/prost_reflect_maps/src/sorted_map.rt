@@ -1,12 +1,12 @@
 //! A map from numbers.
 
-ghost use Rattle.std.specs.Prelude.{◌≡◌, ◌+◌, ◌<◌, ◌≤◌, ◌++◌, ◌^◌, ◌∷◌, ℕ, List, [], length, OnOk, OnErr, IfOk, IfSome, IfNone, None, option_map, vec_len, vec_capacity};
+ghost use Rattle.std.specs.Prelude.{◌≡◌, ◌+◌, ◌<◌, ◌≤◌, ◌++◌, ◌^◌, ◌∷◌, ℕ, List, [], length, OnOk, OnErr, IfOk, IfSome, IfNone, None, option_map, true, vec_len, vec_capacity};
 ghost use Rattle.std.specs.Borrow.{LendsIf, sem};
 ghost use Rattle.std.specs.Option.{option_copied, option_copied_mut, option_to_list};
 ghost use Rattle.std.specs.Vec.Iter.{into_iter_items, into_iter_len};
 ghost use Rattle.prost_reflect_maps.specs.contracts.sorted_map.SortedMap.{the_row};
 ghost use Rattle.prost_reflect_maps.specs.Items.{IsAscending, item_at, with_item, put_item, without_item, items_below, items_from};
-ghost use Rattle.prost_reflect_maps.specs.NumberSets.{has, is_up_to, chosen_up_to, left_beyond, AreReplaced};
+ghost use Rattle.prost_reflect_maps.specs.NumberSets.{has, is_up_to, chosen_up_to, left_beyond, AreReplaced, HavePlaces, has_place, taken_over};
 ghost use Rattle.prost_reflect_maps.specs.ItemsLeft.{items_left, items_left_back};
 
 use crate::boxed::Boxed;
@@ -333,7 +333,70 @@ impl<T: Drop> SortedMap<T> {
     }
 
     /// Puts what the other map has at the numbers of the set in place of what is there. The notes go. If out of memory, nothing changes.
+    ///
+    /// Where each item that is put in has one to take the place of, only these are looked for, and no memory is asked for; else all
+    /// items are moved.
     pub fn replace(
+        &mut self,
+        numbers: &BTreeSet<u32>,
+        others: SortedMap<T>,
+    ) -> Result<(), AllocError>
+        ensures ok { OnOk result (AreReplaced numbers.now self.old.0 others.0 self.new.0) }
+        ensures notes { OnOk result (self.new.1 ≡ None) }
+        ensures err { OnErr result (self.new ≡ self.old) }
+    {
+        if !self.has_places(numbers, &others) {
+            return self.weave_in(numbers, others);
+        }
+        self.take_all_over(numbers, others);
+        Ok(())
+    }
+
+    /// Whether each item of the other map at a number of the set has one here to take the place of.
+    fn has_places(&self, numbers: &BTreeSet<u32>, others: &SortedMap<T>) -> bool
+        ensures { result ≡ true → HavePlaces numbers.now.keys self.now.0 others.now.0 }
+    {
+        for number in numbers {
+            if others.get(*number).is_some() && self.get(*number).is_none() {
+                return false;
+            }
+        }
+        true
+    }
+
+    /// Takes over what the other map has at each number of the set. The notes go.
+    fn take_all_over(&mut self, numbers: &BTreeSet<u32>, others: SortedMap<T>)
+        requires { HavePlaces numbers.now.keys self.old.0 others.0 }
+        ensures items { AreReplaced numbers.now self.old.0 others.0 self.new.0 }
+        ensures notes { self.new.1 ≡ None }
+    {
+        let mut others = others;
+        self.ascends();
+        others.ascends();
+        drop(self.take_notes());
+        for number in numbers {
+            self.take_over(*number, &mut others);
+        }
+    }
+
+    /// Takes over what the other map has at the number; where it has nothing, what is here goes.
+    fn take_over(&mut self, number: u32, others: &mut SortedMap<T>)
+        requires { has_place (item_at others.old.0 number) (item_at self.old.0 number) ≡ true }
+        ensures items { self.new.0 ≡ taken_over (item_at others.old.0 number) self.old.0 number }
+        ensures others { others.new.0 ≡ without_item others.old.0 number }
+        ensures notes { self.new.1 ≡ self.old.1 }
+    {
+        match others.remove(number) {
+            Some(item) => match self.get_mut(number) {
+                Some(place) => *place = item,
+                None => unreachable!(),
+            },
+            None => drop(self.remove(number)),
+        }
+    }
+
+    /// Puts what the other map has at the numbers in place of what is there, in one walk over both.
+    fn weave_in(
         &mut self,
         numbers: &BTreeSet<u32>,
         others: SortedMap<T>,

@@ -44,9 +44,10 @@ impl DynamicMessage {
         ensures typed { IfOk result (λ part. StaysTyped self.now part) }
     {
         let alloc = self.fields.allocator();
+        self.fields.sound();
         let mut fields = SortedMap::new(alloc);
-        for (number, slot) in self.fields.slots() {
-            if numbers.contains(number) {
+        for number in numbers {
+            if let Some(slot) = self.fields.slot(*number) {
                 fields.insert(*number, copy_slot(alloc, slot)?)?;
             }
         }

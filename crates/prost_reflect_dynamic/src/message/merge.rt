@@ -1,12 +1,13 @@
 //! Merging bytes into messages (the encoding guide, "Last One Wins").
 
-ghost use Rattle.std.specs.Prelude.{◌≡◌, ◌≢◌, ℕ, true, List, IfOk, IfErr, IfSome, IfNone};
+ghost use Rattle.std.specs.Prelude.{◌≡◌, ◌≢◌, ℕ, true, List, [], IfOk, IfErr, IfSome, IfNone};
 ghost use Rattle.prost_reflect_wire.specs.Record.{Record};
 ghost use Rattle.prost_reflect_wire.specs.Front.{FieldFront};
 ghost use Rattle.prost_reflect_wire.specs.Grammar.{LEVEL_LIMIT, Accepts};
 ghost use Rattle.prost_reflect_wire.specs.Typing.{kept, WellStored};
 ghost use Rattle.prost_reflect_wire.specs.Fault.{StandsInMessage};
-ghost use Rattle.prost_reflect_wire.specs.Decoding.{Holds};
+ghost use Rattle.prost_reflect_wire.specs.Content.{schema_of, type_of};
+ghost use Rattle.prost_reflect_wire.specs.Decoding.{Holds, Progress};
 ghost use Rattle.prost_reflect_pool.specs.MessageTypes.{schema_at, type_at, SameMessage};
 ghost use Rattle.prost_reflect_fields.specs.Known.{known_of};
 ghost use Rattle.prost_reflect_fields.specs.WholeOneofs.{HasWholeOneofs};
@@ -14,6 +15,7 @@ ghost use Rattle.prost_reflect_dynamic.specs.Merged.{MergesMeaning, HasNumbersOf
 ghost use Rattle.prost_reflect_dynamic.specs.View.{content_of, message_type_of};
 ghost use Rattle.prost_reflect_dynamic.specs.DeepTypes.{all_typed};
 ghost use Rattle.prost_reflect_dynamic.specs.Stored.{message_stored};
+ghost use Rattle.prost_reflect_dynamic.specs.TypedSteps.{StaysTyped};
 
 use crate::message::DynamicMessage;
 use prost_reflect_fields::number_sets::add_number;
@@ -64,6 +66,40 @@ impl DynamicMessage {
         ensures unchanged { IfErr result (λ _. self.new ≡ self.old) }
         ensures sound { WellStored (content_of self.new) }
         ensures typed { all_typed (message_stored self.old) ≡ true → all_typed (message_stored self.new) ≡ true }
+    {
+        self.read_behind(bytes)
+    }
+
+    /// Reads the records of the bytes behind those of the message: into itself where it stores nothing.
+    fn read_behind(&mut self, bytes: &[u8]) -> Result<(), DecodeError>
+        requires sound { WellStored (content_of self.old) }
+        ensures ok { IfOk result (λ _. Progress LEVEL_LIMIT (content_of self.old) (content_of self.new) bytes.now []) }
+        ensures message_type { SameMessage (message_type_of self.old) (message_type_of self.new) }
+        ensures typed { IfOk result (λ _. StaysTyped self.old self.new) }
+        ensures fault { IfErr result (λ e. e ≢ DecodeError.OutOfMemory → StandsInMessage (schema_of (content_of self.old)) (type_of (content_of self.old)) LEVEL_LIMIT e bytes.now) }
+        ensures unchanged { IfErr result (λ _. self.new ≡ self.old) }
+    {
+        if !self.fields.is_empty() {
+            return self.read_into_part(bytes);
+        }
+        let alloc = self.fields.allocator();
+        match self.merge_records(alloc, bytes, RECURSION_LIMIT) {
+            Ok(()) => Ok(()),
+            Err(fault) => {
+                self.fields.clear_all();
+                Err(fault)
+            }
+        }
+    }
+
+    /// Reads the records of the bytes into a copy of what stands at their numbers, and puts that back.
+    fn read_into_part(&mut self, bytes: &[u8]) -> Result<(), DecodeError>
+        requires sound { WellStored (content_of self.old) }
+        ensures ok { IfOk result (λ _. Progress LEVEL_LIMIT (content_of self.old) (content_of self.new) bytes.now []) }
+        ensures message_type { SameMessage (message_type_of self.old) (message_type_of self.new) }
+        ensures typed { IfOk result (λ _. StaysTyped self.old self.new) }
+        ensures fault { IfErr result (λ e. e ≢ DecodeError.OutOfMemory → StandsInMessage (schema_of (content_of self.old)) (type_of (content_of self.old)) LEVEL_LIMIT e bytes.now) }
+        ensures unchanged { IfErr result (λ _. self.new ≡ self.old) }
     {
         let alloc = self.fields.allocator();
         let numbers = numbers_in(alloc, self.message_type(), bytes)?;
