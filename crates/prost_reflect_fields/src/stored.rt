@@ -58,13 +58,11 @@ fn put_value<V: Drop, S: NumberMap<FieldSlot<V>>>(
     ensures ascending { IsAscending (S.entries fields.old) }
 {
     ascending(fields);
-    if fields.get(number).is_none() {
-        return fields.insert(number, FieldSlot::Value(value));
-    }
     match fields.get_mut(number) {
-        Some(slot) => slot.put(alloc, value),
-        None => Ok(()),
+        Some(slot) => return slot.put(alloc, value),
+        None => {}
     }
+    fields.insert(number, FieldSlot::Value(value))
 }
 
 /// Takes the value at the number, where the unknown fields stay.
@@ -107,15 +105,13 @@ pub fn add_unknown<V: Drop, S: NumberMap<FieldSlot<V>>>(
     ensures ascending { IsAscending (S.entries fields.old) }
 {
     ascending(fields);
-    if fields.get(number).is_none() {
-        let mut unknown = UnknownFieldSet::new(alloc);
-        unknown.insert(field)?;
-        return fields.insert(number, FieldSlot::Unknown(unknown));
-    }
     match fields.get_mut(number) {
-        Some(slot) => slot.add_unknown(alloc, field),
-        None => Ok(()),
+        Some(slot) => return slot.add_unknown(alloc, field),
+        None => {}
     }
+    let mut unknown = UnknownFieldSet::new(alloc);
+    unknown.insert(field)?;
+    fields.insert(number, FieldSlot::Unknown(unknown))
 }
 
 /// Sets the value at the number, and removes those of the other members of its field's oneof. So of a oneof at most one member has

@@ -29,6 +29,13 @@ fn numbers_in(message_type: &MessageType, bytes: &[u8]) -> BTreeSet<u32> {
 
 impl DynamicMessage {
     pub fn merge(&mut self, bytes: &[u8]) -> Result<(), DecodeError> {
+        if self.slots.is_empty() {
+            let read = self.merge_records(bytes, RECURSION_LIMIT);
+            if read.is_err() {
+                self.slots.clear();
+            }
+            return read;
+        }
         let numbers = numbers_in(&self.message_type, bytes);
         let mut part = self.clone_at(&numbers);
         part.merge_records(bytes, RECURSION_LIMIT)?;
