@@ -35,6 +35,7 @@ module _ (numbers : BTreeSet ℕ) (es : Slots) where
   replaced s = part_replaced numbers es s
 
   pub copying_begun : IsAscending es → IsStrictlySortedBy nat_cmp numbers.keys → IsCopying numbers es numbers.keys []
+  unfolding IsStrictlySortedBy
   copying_begun s sorted = record {
     at = λ k. there k (has numbers k) refl;
     none = λ k among. refl;
