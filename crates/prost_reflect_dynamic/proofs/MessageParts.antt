@@ -1,13 +1,13 @@
 -- Parts of messages, copied and put back.
-use Rattle.std.specs.Prelude.{◌≡◌, ◌∷◌, ◌++◌}
+use Rattle.std.specs.Prelude.{◌≡◌, ◌∷◌}
 use Rattle.prost_reflect_dynamic.proofs.Common.{ℕ, Bool, true, false, cond, List, [], refl, ap, ap₂, sym, subst, ◌∙◌, unwrap_or, option_map, match_ordering, nat_cmp, Ordering, Less, Equal, Greater, BTreeSet, Field, known, is_sibling, passes, numbers_differ, Content, ContentOf, Slot, schema_of, type_of, slot_at, entries_of, ordered, entries_ordered, LEVEL_LIMIT, WellStored, StandsInMessage, DecodeError, cleared, Progress, OrderedOption, table_ordered, value_in_order, PooledType, SameMessage, schema_at, type_at, FieldSlot, IsAscending, put_item, known_of, are_siblings, stored_at, records_at, Sound, has, HasWholeOneofs, is_chosen, put_chosen, AreReplaced, siblings_back, DynamicMessage, Value, roll-DynamicMessage, value_of, content_of, message_type_of, entries_from, payloads_of, SameSlot, HasNumbersOf, IsJoined}
 use Rattle.prost_reflect_laws.proofs.Readings.{whole_spelled}
 use Rattle.prost_reflect_fields.proofs.Siblings.{known_differ}
-use Rattle.prost_reflect_fields.proofs.Replaced.{values_replaced, records_replaced, chosen_last, part_replaced, sound_part}
+use Rattle.prost_reflect_fields.proofs.Replaced.{values_replaced, records_replaced, part_replaced, sound_part}
 use Rattle.prost_reflect_dynamic.proofs.Views.{shown, content_of_message, content_of_roll}
 use Rattle.prost_reflect_dynamic.proofs.Slots.{from_keys}
 use Rattle.prost_reflect_dynamic.proofs.Stored.{ascending_shown, stored_slot, slot_stored}
-use Rattle.prost_reflect_dynamic.proofs.Copied.{Parts, entry_parts, parts_of, sound_copied, message_copied}
+use Rattle.prost_reflect_dynamic.proofs.Copied.{entry_parts, parts_of, sound_copied, message_copied}
 use Rattle.prost_reflect_dynamic.proofs.StoredContents.{contents_shown}
 use Rattle.prost_reflect_dynamic.proofs.Merging.{known_in, differ_in}
 use Rattle.prost_reflect_dynamic.proofs.JoinedContents.{Closed, part_sound, joined_read}

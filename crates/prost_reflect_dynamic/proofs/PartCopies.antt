@@ -5,8 +5,8 @@ use Rattle.prost_reflect_maps.specs.NumberSets.{is_among}
 use Rattle.prost_reflect_maps.proofs.ItemChanges.{Apart, by_number, put_same, put_apart, ascending_put_item, same_items}
 use Rattle.prost_reflect_maps.proofs.Moving.{above_none, first_among, among_apart}
 use Rattle.prost_reflect_fields.proofs.Replaced.{part_replaced}
-use Rattle.prost_reflect_dynamic.proofs.Common.{ℕ, Bool, true, false, cond, List, [], Option, None, Some, refl, ap, ap₂, sym, subst, ◌∙◌, true≢false, option_map, is_eq, nat_cmp, BTreeSet, has, FieldSlot, Value, IsAscending, item_at, put_item, AreReplaced, SameSlot}
-use Rattle.prost_reflect_dynamic.proofs.Copied.{Parts, entry_parts, parts_of, keys_of_parts}
+use Rattle.prost_reflect_dynamic.proofs.Common.{ℕ, Bool, true, false, cond, List, [], None, Some, refl, ap, sym, subst, ◌∙◌, true≢false, option_map, is_eq, nat_cmp, BTreeSet, has, FieldSlot, Value, IsAscending, item_at, put_item, AreReplaced, SameSlot}
+use Rattle.prost_reflect_dynamic.proofs.Copied.{entry_parts, parts_of, keys_of_parts}
 use Rattle.prost_reflect_dynamic.proofs.MessageParts.{part, parts_put, same_parts}
 
 abbrev Slots : Type 0

@@ -1,7 +1,7 @@
 use Rattle.std.specs.Prelude.{◌≡◌}
 use Rattle.prost_reflect_dynamic.proofs.Common.{ℕ, List, sym, ap, ◌∙◌, subst, SameMessage, PooledType, FieldSlot, Value}
 use Rattle.prost_reflect_dynamic.proofs.Copied.{parts_of}
-use Rattle.prost_reflect_dynamic.proofs.MessageParts.{part, part_kept, message_part}
+use Rattle.prost_reflect_dynamic.proofs.MessageParts.{part_kept, message_part}
 use Rattle.prost_reflect_dynamic.proofs.PartCopies.{IsCopying, all_copied, copied_on, copying_begun, passed_on}
 use Rattle.prost_reflect_dynamic.proofs.TypedSteps.{part_typed}
 use Rattle.prost_reflect_dynamic.proofs.message.DynamicMessage.clone_at.Goals as goal

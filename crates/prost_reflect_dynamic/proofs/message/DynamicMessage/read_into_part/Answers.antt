@@ -1,4 +1,4 @@
-use Rattle.prost_reflect_dynamic.proofs.Common.{sym, subst, err_from_is_err_and, SameMessage, known_of, HasWholeOneofs, content_of, message_type_of}
+use Rattle.prost_reflect_dynamic.proofs.Common.{sym, subst, err_from_is_err_and, SameMessage, known_of, HasWholeOneofs, message_type_of}
 use Rattle.prost_reflect_dynamic.proofs.MessageParts.{part_holds, part_fault, message_read}
 use Rattle.prost_reflect_dynamic.proofs.message.DynamicMessage.read_into_part.Goals as goal
 
