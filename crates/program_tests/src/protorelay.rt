@@ -1,6 +1,6 @@
 //! What the program prints, and its statuses.
 
-use protorelay_commands::{refuse_words, run};
+use protorelay_commands::run::{refuse_words, run};
 use std::alloc::{AllocError, Global};
 use std::io;
 use std::io::{ErrorKind, Write};

@@ -2,7 +2,7 @@
 //! present: `protorelay relay|show SET NAME HEX | edit SET NAME HEX PATH TEXT`.
 #![tactic(auto)]
 
-use protorelay_commands::{refuse_words, run};
+use protorelay_commands::run::{refuse_words, run};
 use std::env::Env;
 use std::process::ExitCode;
 use std::{env, io};

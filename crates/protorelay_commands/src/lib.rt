@@ -11,7 +11,5 @@ mod path;
 mod reading;
 mod refusal;
 mod relay;
-mod run;
+pub mod run;
 mod show;
-
-pub use run::{Outcome, carry_out, refuse_words, run};

@@ -3,7 +3,7 @@
 //! DIGITS]`. SET, OLDER and NEWER are files with descriptor sets, or `-` for the built-in one.
 #![tactic(auto)]
 
-use prototool_commands::run;
+use prototool_commands::run::run;
 use std::process::ExitCode;
 
 fn main(rt: HostRuntime) -> ExitCode {

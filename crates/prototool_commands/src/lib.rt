@@ -14,7 +14,7 @@ mod input;
 mod print;
 mod redact;
 mod refusal;
-mod run;
+pub mod run;
 mod types;
 
 pub use answer::Answer;
@@ -23,4 +23,3 @@ pub use decoding::with_place;
 pub use print::{double_text, float_text, message_text, raw_text};
 pub use redact::{numbers_of, redacted};
 pub use refusal::Refusal;
-pub use run::run;
