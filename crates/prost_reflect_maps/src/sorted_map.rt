@@ -396,11 +396,7 @@ impl<T: Drop> SortedMap<T> {
     }
 
     /// Puts what the other map has at the numbers in place of what is there, in one walk over both.
-    fn weave_in(
-        &mut self,
-        numbers: &BTreeSet<u32>,
-        others: SortedMap<T>,
-    ) -> Result<(), AllocError>
+    fn weave_in(&mut self, numbers: &BTreeSet<u32>, others: SortedMap<T>) -> Result<(), AllocError>
         ensures ok { OnOk result (AreReplaced numbers.now self.old.0 others.0 self.new.0) }
         ensures notes { OnOk result (self.new.1 ≡ None) }
         ensures err { OnErr result (self.new ≡ self.old) }

@@ -10,10 +10,9 @@ mod text;
 mod unknown;
 mod written;
 
-pub use float::{double_text, float_text};
-
 use crate::refusal::Refusal;
 use fields::fields_in;
+pub use float::{double_text, float_text};
 use message::{push_entry, push_message};
 use prost_reflect::{DynamicMessage, MessageDescriptor, RECURSION_LIMIT, UnknownField};
 use std::alloc::{AllocError, Global};

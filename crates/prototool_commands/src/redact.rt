@@ -12,13 +12,12 @@ ghost use Rattle.prototool_commands.specs.Refusals.{is_path};
 mod clearing;
 mod path;
 
-pub use path::numbers_of;
-
 use crate::command::Source;
 use crate::decoding::with_place;
 use crate::input::{bytes_of, message_type, pool_of};
 use crate::refusal::Refusal;
 use clearing::clear_along;
+pub use path::numbers_of;
 use prost_reflect::{DynamicMessage, MessageDescriptor};
 use std::alloc::{AllocError, Global};
 use std::io::Input;

@@ -13,7 +13,7 @@ loop-number-preserved g c rest =
     let es = c.args.self.now.0 in
     let ds = c.args.others.now.0 in
     let here : has_place (item_at ds n) (item_at es n) ≡ true = elim c.else-is_some.branch [
-      else-is_some-via-then-is_some+else-is_none w ↦
+      | else-is_some-via-then-is_some+else-is_none w ↦
           let found : is_none w.get-then-is_some.result ≡ false = search rules in
           place_of w.get-then-is_some.result (item_at ds n) (item_at es n) found w.get-then-is_some.ensures
       | else-is_some-via-else-is_some w ↦
