@@ -2,7 +2,7 @@
 use Rattle.std.specs.Prelude.{◌≡◌, ◌∷◌, is_none, is_some}
 use Rattle.std.specs.Borrow.{Bor}
 use Rattle.std.specs.Option.{option_copied}
-use Rattle.prost_reflect_maps.proofs.Common.{true, false, Bool, cond, ℕ, List, [], Option, None, Some, ap, ap₂, sym, ◌∙◌, subst, refl, true≢false, nat_cmp, is_eq, Less, is_at, list_any, BTreeSet, AllByRecursion, IsStrictlySortedBy, IsAscending, item_at, with_item, without_item, AreReplaced, HavePlaces, has, has_place, is_among, taken_over}
+use Rattle.prost_reflect_maps.proofs.Common.{true, false, cond, ℕ, List, [], Option, None, Some, ap, ap₂, sym, ◌∙◌, subst, refl, true≢false, nat_cmp, Less, BTreeSet, AllByRecursion, IsStrictlySortedBy, IsAscending, item_at, with_item, without_item, AreReplaced, HavePlaces, has, has_place, is_among, taken_over}
 use Rattle.prost_reflect_maps.proofs.ItemChanges.{Apart, by_number, apart_back, itself, with_same, with_apart, without_same, without_apart, ascending_with, ascending_without}
 
 -- a number below all others is none of them
