@@ -1,5 +1,5 @@
 -- Maps with what others have at the numbers of a set.
-use Rattle.std.specs.Prelude.{◌≡◌, ◌∷◌, ◌++◌}
+use Rattle.std.specs.Prelude.{◌≡◌, ◌∷◌}
 use Rattle.prost_reflect_fields.proofs.Common.{ℕ, Bool, true, false, cond, List, [], Option, Some, None, refl, ap, ap₂, sym, subst, ◌∙◌, true≢false, option_and_then, is_some, nat_cmp, is_eq, BTreeSet, IsStrictlySortedBy, Field, numbers_differ, FieldSlot, IsAscending, item_at, put_item, is_known, are_siblings, value_in, records_in, stored_at, records_at, Sound, unknown_kept, has, HasWholeOneofs, is_chosen, put_chosen, AreReplaced}
 use Rattle.prost_reflect_maps.proofs.ItemChanges.{Apart, by_number, put_same, put_apart, none_above, ascending_put_item, itself}
 use Rattle.prost_reflect_fields.proofs.Siblings.{siblings_back}
@@ -54,11 +54,6 @@ module _ {T : Type 0} where
       cases : (b : Bool) → IsAscending (cond b (put_item es d.0 d.1) es)
       cases true = ascending_put_item es d.0 d.1 s
       cases false = s
-
-  -- one more at the end
-  pub chosen_last : (test : ℕ → Bool) (es ds : List (ℕ × T)) (d : ℕ × T) → put_chosen test es (ds ++ d ∷ []) ≡ chosen test (put_chosen test es ds) d
-  chosen_last test es [] d = refl
-  chosen_last test es (e ∷ ds) d = chosen_last test (chosen test es e) ds d
 
   -- those of the set alone
   pub part_replaced : (numbers : BTreeSet ℕ) (es : List (ℕ × T)) → IsAscending es → AreReplaced numbers [] es (put_chosen (is_chosen numbers true) [] es)
