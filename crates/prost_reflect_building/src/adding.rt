@@ -134,8 +134,8 @@ fn all_files(
 ///
 /// A file of a name that is there already is skipped unchecked, and of several files of one name the first is taken. What the
 /// pool has is neither checked nor linked again, and stays shared with it. The cost grows as n log n in the number of added
-/// definitions; beside it stand a count for each file and for each 64 definitions of the pool, a copy of its places by name, and,
-/// where its messages are extended, what these have.
+/// definitions; beside it stand a count for each file and for each 64 definitions of the pool, a copy of its places by name of each
+/// sort that is added, and, where its messages are extended, what these have.
 ///
 /// # Errors
 ///

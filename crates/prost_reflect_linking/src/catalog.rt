@@ -131,7 +131,8 @@ pub fn outlined(
 
 /// The catalog of a pool and of files that are added to it, whose tables are linked already, with those of the pool. What the
 /// catalog of the pool has is shared, but for what added extensions change. The cost grows as n log n in the number of added
-/// definitions; the places by names are copied, and, where a message type of the pool is extended, its lists and extensions.
+/// definitions; the places by names of each sort that is added are copied, and, where a message type of the pool is extended, its
+/// lists and extensions.
 ///
 /// # Errors
 ///

@@ -11,6 +11,7 @@ ghost use Rattle.prost_reflect_tables.specs.Orders.{text_at, text_before};
 use crate::order::{ordered_texts, text_at};
 use prost_reflect_base::Base;
 use prost_reflect_growth::merged;
+use prost_reflect_shared::shared_slice::SharedSlice;
 use std::alloc::{AllocError, Global};
 
 /// A sort of definitions.
@@ -55,16 +56,16 @@ fn name_below<'p>(base: Base<'p>, sort: Sort, place: usize) -> &'p str
 }
 
 /// The places in a pool, in the order of the names.
-fn order_below<'p>(base: Base<'p>, sort: Sort) -> &'p [usize]
+fn order_below<'p>(base: Base<'p>, sort: Sort) -> &'p SharedSlice<usize>
     ensures { result.now ≡ order_below base.entry sort }
 {
     let places = &base.pool().catalog().by_name;
     match sort {
-        Sort::File => places.files.as_slice(),
-        Sort::Message => places.messages.as_slice(),
-        Sort::Enum => places.enums.as_slice(),
-        Sort::Extension => places.extensions.as_slice(),
-        Sort::Service => places.services.as_slice(),
+        Sort::File => &places.files,
+        Sort::Message => &places.messages,
+        Sort::Enum => &places.enums,
+        Sort::Extension => &places.extensions,
+        Sort::Service => &places.services,
     }
 }
 
@@ -98,7 +99,8 @@ fn later_places(alloc: Global, count: usize, places: &[usize]) -> Result<Vec<usi
     Ok(later)
 }
 
-/// The places of all of a sort in the order of their names, of those in a pool and of added ones of these names.
+/// The places of all of a sort in the order of their names, of those in a pool and of added ones of these names. Those of the pool
+/// are shared where none of the sort is added, and else copied.
 ///
 /// # Errors
 ///
@@ -108,13 +110,17 @@ pub fn merged_by_name(
     base: Base<'_>,
     sort: Sort,
     added: &[&str],
-) -> Result<Vec<usize>, AllocError>
-    ensures { IfOk result (λ v. v.items ≡ grown_order (names_below base.entry sort) (text_list added.now) (order_below base.entry sort)) }
+) -> Result<SharedSlice<usize>, AllocError>
+    ensures { IfOk result (λ places. places ≡ grown_order (names_below base.entry sort) (text_list added.now) (order_below base.entry sort)) }
 {
+    let old = order_below(base, sort);
+    if added.is_empty() {
+        return Ok(old.clone()?);
+    }
     let places = ordered_texts(alloc, added)?;
     let later = later_places(alloc, count_below(base, sort), places.as_slice())?;
     let before = |first: &usize, second: &usize| is_before(base, sort, added, *first, *second);
-    let mut all = merged(alloc, order_below(base, sort), later.as_slice(), &before)?;
+    let mut all = merged(alloc, old.as_slice(), later.as_slice(), &before)?;
     all.shrink_to_fit();
-    Ok(all)
+    Ok(SharedSlice::from_vec(alloc, all)?)
 }

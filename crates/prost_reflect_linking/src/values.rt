@@ -15,6 +15,7 @@ ghost use Rattle.prost_reflect_tables.specs.Orders.{sorted_by, text_at, text_in,
 
 use prost_reflect_base::Base;
 use prost_reflect_growth::merged;
+use prost_reflect_shared::shared_slice::SharedSlice;
 use prost_reflect_tables::{Definition, Flat, FlatEnum};
 use prost_reflect_types::EnumValueDescriptorProto;
 use std::alloc::{AllocError, Global};
@@ -139,6 +140,7 @@ fn later_values(
 }
 
 /// The values of all enums, of a pool and of added files, by their full names: each as the place of its enum and its place there.
+/// Those of the pool are shared where no enum with values is added, and else copied.
 ///
 /// # Errors
 ///
@@ -147,16 +149,19 @@ pub fn merged_values(
     alloc: Global,
     base: Base<'_>,
     flat: &Flat,
-) -> Result<Vec<(usize, usize)>, AllocError>
-    ensures { IfOk result (λ v. v.items ≡ grown_values (rows_below base.entry) (flat_rows flat.now) (catalog_below base.entry).by_name.values) }
+) -> Result<SharedSlice<(usize, usize)>, AllocError>
+    ensures { IfOk result (λ places. places ≡ grown_values (rows_below base.entry) (flat_rows flat.now) (catalog_below base.entry).by_name.values) }
 {
+    let old = &base.pool().catalog().by_name.values;
     let pairs = ordered_values(alloc, flat)?;
+    if pairs.is_empty() {
+        return Ok(old.clone()?);
+    }
     let later = later_values(alloc, base.enum_count(), pairs.as_slice())?;
     let before = |first: &(usize, usize), second: &(usize, usize)| is_before(
         base, flat, *first, *second,
     );
-    let old = base.pool().catalog().by_name.values.as_slice();
-    let mut all = merged(alloc, old, later.as_slice(), &before)?;
+    let mut all = merged(alloc, old.as_slice(), later.as_slice(), &before)?;
     all.shrink_to_fit();
-    Ok(all)
+    Ok(SharedSlice::from_vec(alloc, all)?)
 }

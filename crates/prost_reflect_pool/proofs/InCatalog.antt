@@ -25,7 +25,7 @@ unfolding linked_message
 linked_names links extensions T [] = refl
 linked_names links extensions T (m ∷ ms) = ap (λ names. m.definition.full_name ∷ names) (linked_names links extensions (T + 1) ms)
 
-pub message_order : (files : List FileDescriptorProto) (rows : TableRows) (catalog : Catalog) → AreTablesOf files rows → IsCatalogOf files catalog → catalog.by_name.messages.items ≡ ordered (map message_name rows.messages)
+pub message_order : (files : List FileDescriptorProto) (rows : TableRows) (catalog : Catalog) → AreTablesOf files rows → IsCatalogOf files catalog → catalog.by_name.messages ≡ ordered (map message_name rows.messages)
 unfolding IsCatalogOf
 message_order files rows catalog built listed =
     let flat = flattened files in
@@ -42,14 +42,14 @@ pub map_twice : {X Y Z : Type 0} (f : Y → Z) (g : X → Y) (xs : List X) → m
 map_twice f g [] = refl
 map_twice f g (x ∷ xs) = ap (λ l. f (g x) ∷ l) (map_twice f g xs)
 
-pub enum_order : (files : List FileDescriptorProto) (rows : TableRows) (catalog : Catalog) → AreTablesOf files rows → IsCatalogOf files catalog → catalog.by_name.enums.items ≡ ordered (map enum_name rows.enums)
+pub enum_order : (files : List FileDescriptorProto) (rows : TableRows) (catalog : Catalog) → AreTablesOf files rows → IsCatalogOf files catalog → catalog.by_name.enums ≡ ordered (map enum_name rows.enums)
 unfolding IsCatalogOf
 enum_order files rows catalog built listed =
     let flat = flattened files in
     let names : map enum_name rows.enums ≡ enum_names flat = ap (λ (r : TableRows). map enum_name r.enums) built.1 ∙ map_twice enum_name linked_enum flat.enums in
     ap (λ (c : CatalogRows). c.by_name.enums) listed ∙ ap ordered (sym names)
 
-pub service_order : (files : List FileDescriptorProto) (catalog : Catalog) → IsCatalogOf files catalog → catalog.by_name.services.items ≡ ordered (map service_name (catalog_row catalog).services)
+pub service_order : (files : List FileDescriptorProto) (catalog : Catalog) → IsCatalogOf files catalog → catalog.by_name.services ≡ ordered (map service_name (catalog_row catalog).services)
 unfolding IsCatalogOf
 service_order files catalog listed =
     let flat = flattened files in
@@ -58,7 +58,7 @@ service_order files catalog listed =
 abbrev pub file_name : FileDescriptorProto → List ℕ
 file_name f = text_or_empty f.name
 
-pub file_order : (files : List FileDescriptorProto) (catalog : Catalog) → IsCatalogOf files catalog → catalog.by_name.files.items ≡ ordered (file_names files)
+pub file_order : (files : List FileDescriptorProto) (catalog : Catalog) → IsCatalogOf files catalog → catalog.by_name.files ≡ ordered (file_names files)
 unfolding IsCatalogOf
 file_order files catalog listed = ap (λ (c : CatalogRows). c.by_name.files) listed
 
@@ -75,7 +75,7 @@ names_linked (e ∷ enums) =
     ap (λ (names : List (List ℕ)). names ∷ value_full_names (map linked_enum enums)) (map_twice value_full_name linked_value e.values)
     ∙ ap (λ (lists : List (List (List ℕ))). names_of e.values ∷ lists) (names_linked enums)
 
-pub value_order : (files : List FileDescriptorProto) (rows : TableRows) (catalog : Catalog) → AreTablesOf files rows → IsCatalogOf files catalog → catalog.by_name.values.items ≡ sorted_by (text_before (text_in (value_full_names rows.enums))) (value_places rows)
+pub value_order : (files : List FileDescriptorProto) (rows : TableRows) (catalog : Catalog) → AreTablesOf files rows → IsCatalogOf files catalog → catalog.by_name.values ≡ sorted_by (text_before (text_in (value_full_names rows.enums))) (value_places rows)
 unfolding IsCatalogOf
 value_order files rows catalog built listed =
     let flat = flattened files in
@@ -151,7 +151,7 @@ pub linked_name : (links : Links) (d : DefinitionRow FieldDescriptorProto) → (
 unfolding linked_field
 linked_name links d = refl
 
-pub extension_order : (files : List FileDescriptorProto) (rows : TableRows) (catalog : Catalog) → AreTablesOf files rows → is_linked rows ≡ true → IsCatalogOf files catalog → catalog.by_name.extensions.items ≡ ordered (map (extension_name rows) (catalog_row catalog).extensions)
+pub extension_order : (files : List FileDescriptorProto) (rows : TableRows) (catalog : Catalog) → AreTablesOf files rows → is_linked rows ≡ true → IsCatalogOf files catalog → catalog.by_name.extensions ≡ ordered (map (extension_name rows) (catalog_row catalog).extensions)
 unfolding IsCatalogOf
 extension_order files rows catalog built linked listed =
     let flat = flattened files in

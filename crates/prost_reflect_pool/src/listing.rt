@@ -2,7 +2,7 @@
 
 ghost use Rattle.std.specs.Prelude.{◌≡◌, ◌<◌, IsTrue, length, Some, IfSome, slice_get};
 ghost use Rattle.std.specs.List.{All, list_all};
-ghost use Rattle.prost_reflect_tables.specs.CatalogRows.{file_table_row, message_lists_row, enum_lists_row, sorted_row};
+ghost use Rattle.prost_reflect_tables.specs.CatalogRows.{file_table_row, message_lists_row, enum_lists_row};
 ghost use Rattle.prost_reflect_tables.specs.LinkedCatalog.{own_fields};
 ghost use Rattle.prost_reflect_tables.specs.Places.{fields_at, is_declared_at};
 ghost use Rattle.prost_reflect_tables.specs.Rows.{message_row, oneof_row, enum_row};
@@ -12,7 +12,7 @@ ghost use Rattle.prost_reflect_pool.specs.RecordPaths.{oneofs_at};
 
 use crate::LinkedPool;
 use prost_reflect_tables::{
-    EnumLists, EnumTable, FileTable, MessageLists, MessageTable, OneofTable, SortedPlaces,
+    EnumLists, EnumTable, FileTable, MessageLists, MessageTable, OneofTable,
 };
 
 /// How many there are of each sort.
@@ -120,18 +120,5 @@ impl LinkedPool {
         ensures by_number { All (λ i. i < length (values_at (pool_rows self.now) index)) result.now.by_number.items }
     {
         &self.catalog.enums[index]
-    }
-
-    /// The places of all definitions of a sort, by their full names.
-    pub fn sorted_places(&self) -> &SortedPlaces
-        ensures row { sorted_row result.now ≡ (pool_catalog self.now).by_name }
-        ensures files { All (λ i. i < length (files_of self.now)) result.now.files.items }
-        ensures messages { All (λ i. i < length (pool_rows self.now).messages) result.now.messages.items }
-        ensures enums { All (λ i. i < length (pool_rows self.now).enums) result.now.enums.items }
-        ensures extensions { All (λ i. i < length (pool_catalog self.now).extensions) result.now.extensions.items }
-        ensures services { All (λ i. i < length (pool_catalog self.now).services) result.now.services.items }
-        ensures values { All (λ p. p.1 < length (values_at (pool_rows self.now) p.0)) result.now.values.items }
-    {
-        &self.catalog.by_name
     }
 }

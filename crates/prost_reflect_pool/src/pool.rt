@@ -11,6 +11,7 @@ ghost use Rattle.prost_reflect_pool.specs.FileNames.{names_differ};
 
 use prost_reflect_identity::Identity;
 use prost_reflect_shared::shared_list::SharedList;
+use prost_reflect_shared::shared_slice::SharedSlice;
 use prost_reflect_tables::{Catalog, SortedPlaces, Tables};
 use prost_reflect_types::FileDescriptorProto;
 use std::alloc::Global;
@@ -135,12 +136,12 @@ fn empty_catalog(alloc: Global) -> Catalog
         extensions: SharedList::new(alloc),
         services: SharedList::new(alloc),
         by_name: SortedPlaces {
-            files: Vec::new(alloc),
-            messages: Vec::new(alloc),
-            enums: Vec::new(alloc),
-            extensions: Vec::new(alloc),
-            services: Vec::new(alloc),
-            values: Vec::new(alloc),
+            files: SharedSlice::new(),
+            messages: SharedSlice::new(),
+            enums: SharedSlice::new(),
+            extensions: SharedSlice::new(),
+            services: SharedSlice::new(),
+            values: SharedSlice::new(),
         },
     }
 }

@@ -6,10 +6,13 @@
 //!
 //! `shared_list` has the list and its calls, each of which says what it does to the items in their order; `shared_items` walks over
 //! them. `pointers` makes lists of pointers, and chunks of them. A call that runs out of memory changes nothing.
+//!
+//! `shared_slice` has items in one block, which never change; a clone costs one count.
 #![tactic(auto)]
 
 mod pointers;
 pub mod shared_items;
 pub mod shared_list;
+pub mod shared_slice;
 #[cfg(test)]
 mod tests;

@@ -80,7 +80,7 @@ abbrev pub service_table_row : ServiceTable → ServiceRow
 service_table_row s = record { id = identity_row s.id; methods = map method_table_row s.methods.items }
 
 abbrev pub sorted_row : SortedPlaces → SortedRow
-sorted_row s = record { files = s.files.items; messages = s.messages.items; enums = s.enums.items; extensions = s.extensions.items; services = s.services.items; values = s.values.items }
+sorted_row s = record { files = s.files; messages = s.messages; enums = s.enums; extensions = s.extensions; services = s.services; values = s.values }
 
 abbrev pub catalog_row : Catalog → CatalogRows
 catalog_row c = record { files = map file_table_row c.files; messages = map message_lists_row c.messages; enums = map enum_lists_row c.enums; extensions = map extension_table_row c.extensions; services = map service_table_row c.services; by_name = sorted_row c.by_name }

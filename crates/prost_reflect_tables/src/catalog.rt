@@ -3,6 +3,7 @@
 
 use crate::tables::Identity;
 use prost_reflect_shared::shared_list::SharedList;
+use prost_reflect_shared::shared_slice::SharedSlice;
 
 /// What stands in a file.
 #[derive(PartialEq, Eq, Debug, Drop)]
@@ -84,18 +85,18 @@ pub struct ServiceTable {
 #[derive(PartialEq, Eq, Debug, Drop)]
 pub struct SortedPlaces {
     /// The files, by their names.
-    pub files: Vec<usize>,
+    pub files: SharedSlice<usize>,
     /// The message types.
-    pub messages: Vec<usize>,
+    pub messages: SharedSlice<usize>,
     /// The enums.
-    pub enums: Vec<usize>,
+    pub enums: SharedSlice<usize>,
     /// The extensions.
-    pub extensions: Vec<usize>,
+    pub extensions: SharedSlice<usize>,
     /// The services.
-    pub services: Vec<usize>,
+    pub services: SharedSlice<usize>,
     /// The values of all enums, each as the place of its enum and its place among the values of that enum; of values of one full
     /// name the first, in the order of the enums and then of their declaration, stands first.
-    pub values: Vec<(usize, usize)>,
+    pub values: SharedSlice<(usize, usize)>,
 }
 
 /// What descriptors tell of a pool besides its rows.

@@ -7,5 +7,5 @@ pub returns : goal.returns
 returns c =
     let pool = c.args.self.now in
     let rows = (pool_catalog pool).extensions in
-    named_found (extension_name (pool_rows pool)) rows c.args.full_name.now _ _ (c.as_slice.ensures.value ∙ extension_order (files_of pool) (pool_rows pool) pool.catalog pool.built pool.tables.linked pool.listed)
+    named_found (extension_name (pool_rows pool)) rows c.args.full_name.now _ _ (c.as_slice.ensures ∙ extension_order (files_of pool) (pool_rows pool) pool.catalog pool.built pool.tables.linked pool.listed)
     (c.first_equal.ensures (text_order (map (extension_name (pool_rows pool)) rows) c.args.full_name.now) (λ x r h. search rules))

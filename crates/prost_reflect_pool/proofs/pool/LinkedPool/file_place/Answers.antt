@@ -7,5 +7,5 @@ pub returns : goal.returns
 returns c =
     let pool = c.args.self.now in
     let rows = files_of pool in
-    named_found file_name rows c.args.name.now _ _ (c.as_slice.ensures.value ∙ file_order (files_of pool) pool.catalog pool.listed)
+    named_found file_name rows c.args.name.now _ _ (c.as_slice.ensures ∙ file_order (files_of pool) pool.catalog pool.listed)
     (c.first_equal.ensures (text_order (map file_name rows) c.args.name.now) (λ x r h. search rules))

@@ -7,5 +7,5 @@ pub returns : goal.returns
 returns c =
     let pool = c.args.self.now in
     let rows = (pool_catalog pool).services in
-    named_found service_name rows c.args.full_name.now _ _ (c.as_slice.ensures.value ∙ service_order (files_of pool) pool.catalog pool.listed)
+    named_found service_name rows c.args.full_name.now _ _ (c.as_slice.ensures ∙ service_order (files_of pool) pool.catalog pool.listed)
     (c.first_equal.ensures (text_order (map service_name rows) c.args.full_name.now) (λ x r h. search rules))

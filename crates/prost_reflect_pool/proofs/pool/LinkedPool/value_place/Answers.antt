@@ -10,7 +10,7 @@ returns c =
     let rows = pool_rows pool in
     let w = c.args.full_name.now in
     let found : c.first_equal.result ≡ value_place rows w =
-    value_found rows w _ _ (c.as_slice.ensures.value ∙ value_order (files_of pool) rows pool.catalog pool.built pool.listed)
+    value_found rows w _ _ (c.as_slice.ensures ∙ value_order (files_of pool) rows pool.catalog pool.built pool.listed)
     (c.first_equal.ensures (value_name_order rows w) (λ x r h. search rules)) in
     record {
       found = found;
