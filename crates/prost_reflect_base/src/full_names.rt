@@ -15,7 +15,7 @@ fn full_name_of_value(values: &[EnumValueTable], place: usize) -> &str
     ensures { result.now ≡ text_at (map (λ v. v.id.full_name) (map enum_value_row values.now)) place }
 {
     match values.get(place) {
-        Some(value) => value.id.full_name.as_str(),
+        Some(value) => value.id.full_name(),
         None => "",
     }
 }
@@ -37,7 +37,7 @@ impl<'p> Base<'p> {
         ensures { result.now ≡ text_at (message_names (rows_below self.now)) place }
     {
         match self.pool.tables().messages.get(place) {
-            Some(message) => message.id.full_name.as_str(),
+            Some(message) => message.id.full_name(),
             None => "",
         }
     }
@@ -47,7 +47,7 @@ impl<'p> Base<'p> {
         ensures { result.now ≡ text_at (enum_names (rows_below self.now)) place }
     {
         match self.pool.tables().enums.get(place) {
-            Some(declared) => declared.id.full_name.as_str(),
+            Some(declared) => declared.id.full_name(),
             None => "",
         }
     }
@@ -67,7 +67,7 @@ impl<'p> Base<'p> {
         ensures { result.now ≡ text_at (names_of (rows_below self.now).extensions) place }
     {
         if place < self.pool.extension_count() {
-            self.pool.extension_field(place).id.full_name.as_str()
+            self.pool.extension_field(place).id.full_name()
         } else {
             ""
         }
@@ -78,7 +78,7 @@ impl<'p> Base<'p> {
         ensures { result.now ≡ text_at (service_names (rows_below self.now)) place }
     {
         match self.pool.catalog().services.get(place) {
-            Some(service) => service.id.full_name.as_str(),
+            Some(service) => service.id.full_name(),
             None => "",
         }
     }

@@ -32,7 +32,7 @@ fn is_oneof_name(oneofs: &[OneofTable], name: &str) -> bool
     ensures { result ≡ list_any (λ o. bytes_eq name.now o.id.name) (map oneof_row oneofs.now) }
 {
     for oneof in oneofs {
-        if name == oneof.id.name.as_str() {
+        if name == oneof.id.name() {
             return true;
         }
     }
@@ -44,7 +44,7 @@ fn is_method_name(methods: &[MethodTable], name: &str) -> bool
     ensures { result ≡ list_any (λ m. bytes_eq name.now m.id.name) (map method_table_row methods.now) }
 {
     for method in methods {
-        if name == method.id.name.as_str() {
+        if name == method.id.name() {
             return true;
         }
     }

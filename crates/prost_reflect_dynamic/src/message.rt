@@ -67,9 +67,16 @@ pub use unknowns::{TakenUnknownFields, UnknownFields};
 
 /// A message of a type that is known only at run time: the values of its fields and extensions, and its unknown fields.
 #[cycle(value)]
-#[derive(Debug, Drop)]
+#[derive(Debug)]
 pub struct DynamicMessage {
     fields: FieldSet<Value>,
+}
+
+impl Drop for DynamicMessage {
+    #[cycle(dropping)]
+    fn drop(self) {
+        let DynamicMessage { fields: _ } = self;
+    }
 }
 
 impl DynamicMessage {

@@ -200,12 +200,11 @@ impl<V: Drop> FieldSet<V> {
         drop(self.take(number));
     }
 
-    /// Removes all values and all unknown fields.
+    /// Removes all values and all unknown fields. A list of few slots keeps its room.
     pub fn clear_all(&mut self)
         ensures { self.new ≡ (self.old.0, []) }
     {
-        let alloc = self.fields.allocator();
-        self.fields = SortedMap::new(alloc);
+        self.fields.clear();
     }
 
     /// Takes the unknown fields of all numbers, those of each as one set, in ascending order. The values stay.

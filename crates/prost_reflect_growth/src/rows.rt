@@ -19,8 +19,7 @@ fn copied_identity(id: &Identity) -> Result<Identity, AllocError>
         file: id.file,
         parent: id.parent,
         path: id.path.clone()?,
-        full_name: id.full_name.clone()?,
-        name: id.name.clone()?,
+        names: id.names.clone()?,
     })
 }
 

@@ -1,13 +1,14 @@
 //! Where definitions stand, as rows of the tables say it.
 
 ghost use Rattle.std.specs.Prelude.{◌≡◌, IfOk, string_bytes};
-ghost use Rattle.prost_reflect_tables.specs.Rows.{identity_row};
+ghost use Rattle.prost_reflect_tables.specs.Rows.{identity_row, json_name_of};
 ghost use Rattle.prost_reflect_tables.specs.FlatViews.{definition_row, lent_row};
 ghost use Rattle.prost_reflect_tables.specs.Linking.{linked_identity, json_name};
-ghost use Rattle.prost_reflect_tables.specs.Names.{bracketed};
+ghost use Rattle.prost_reflect_tables.specs.Names.{bracketed, text_or_empty};
 
-use prost_reflect_tables::{Definition, DefinitionRef, Identity, text_or_empty};
+use prost_reflect_tables::{Definition, DefinitionNames, DefinitionRef, Identity, text_or_empty};
 use prost_reflect_types::FieldDescriptorProto;
+use smallvec::SmallVec;
 use std::alloc::{AllocError, Global};
 
 /// Where a definition of this name stands.
@@ -40,9 +41,8 @@ pub fn lent_identity<R>(
     Ok(Identity {
         file: definition.file,
         parent: definition.parent,
-        path: definition.path.to_vec(alloc)?,
-        full_name: String::from_str(alloc, definition.full_name)?,
-        name: String::from_str(alloc, text_or_empty(name))?,
+        path: SmallVec::from_slice(alloc, definition.path)?,
+        names: DefinitionNames::new(alloc, definition.full_name, text_or_empty(name))?,
     })
 }
 
@@ -56,7 +56,7 @@ fn bracketed(alloc: Global, full_name: &str) -> Result<String, AllocError>
     Ok(name)
 }
 
-/// The name of a field or an extension in JSON.
+/// The name of a field or an extension in JSON, if it is not its own name.
 ///
 /// # Errors
 ///
@@ -65,14 +65,15 @@ pub fn json_name(
     alloc: Global,
     is_extension: bool,
     definition: &DefinitionRef<FieldDescriptorProto>,
-) -> Result<String, AllocError>
-    ensures { IfOk result (λ s. string_bytes s ≡ json_name is_extension (lent_row definition.now)) }
+) -> Result<Option<Box<String>>, AllocError>
+    ensures { IfOk result (λ text. json_name_of text (text_or_empty definition.now.proto.now.name) ≡ json_name is_extension (lent_row definition.now)) }
 {
     if is_extension {
-        return bracketed(alloc, definition.full_name);
+        return Ok(Some(Box::new(alloc, bracketed(alloc, definition.full_name)?)?));
     }
+    let name = text_or_empty(&definition.proto.name);
     match &definition.proto.json_name {
-        Some(name) => name.clone(),
-        None => String::from_str(alloc, text_or_empty(&definition.proto.name)),
+        Some(text) if text.as_str() != name => Ok(Some(Box::new(alloc, text.clone()?)?)),
+        _ => Ok(None),
     }
 }

@@ -189,7 +189,7 @@ fn field_names<'f>(alloc: Global, fields: &'f [FieldTable]) -> Result<Vec<&'f st
 {
     let mut names = Vec::with_capacity(alloc, fields.len())?;
     for field in fields {
-        names.push(field.id.name.as_str())?;
+        names.push(field.id.name())?;
     }
     Ok(names)
 }
@@ -199,7 +199,7 @@ fn json_names<'f>(alloc: Global, fields: &'f [FieldTable]) -> Result<Vec<&'f str
 {
     let mut names = Vec::with_capacity(alloc, fields.len())?;
     for field in fields {
-        names.push(field.json_name.as_str())?;
+        names.push(field.json_name())?;
     }
     Ok(names)
 }

@@ -65,6 +65,15 @@ impl<T> ItemList<T> {
         &self.items
     }
 
+    /// Removes all items. The list keeps its room.
+    pub(crate) fn clear(&mut self)
+    where
+        T: Drop,
+        ensures { self.new ≡ [] }
+    {
+        self.items.clear();
+    }
+
     /// What the items are stored with.
     pub(crate) fn allocator(&self) -> Global {
         *self.items.allocator()

@@ -289,6 +289,19 @@ impl<T> SortedMap<T> {
 }
 
 impl<T: Drop> SortedMap<T> {
+    /// Removes all items, and the notes. Where the items stand in one list, it keeps its room, so that as many further ones take no
+    /// memory for it.
+    pub fn clear(&mut self)
+        ensures { self.new ≡ ([], None) }
+    {
+        let alloc = self.allocator();
+        match &mut self.held {
+            Held::Empty(_, _) => {}
+            Held::Listed(list) => list.get_mut().clear(),
+            Held::Laid(_) => self.held = Held::Empty(alloc, FIRST_ROOM),
+        }
+    }
+
     /// Puts the item at the number, in place of one that is there.
     ///
     /// # Errors

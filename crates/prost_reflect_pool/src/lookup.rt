@@ -51,7 +51,7 @@ fn field_name(fields: &[FieldTable], place: usize) -> &str
     ensures { result.now ≡ text_at (field_names (map field_row fields.now)) place }
 {
     match fields.get(place) {
-        Some(field) => field.id.name.as_str(),
+        Some(field) => field.id.name(),
         None => "",
     }
 }
@@ -60,7 +60,7 @@ fn json_name(fields: &[FieldTable], place: usize) -> &str
     ensures { result.now ≡ text_at (json_names (map field_row fields.now)) place }
 {
     match fields.get(place) {
-        Some(field) => field.json_name.as_str(),
+        Some(field) => field.json_name(),
         None => "",
     }
 }
@@ -69,7 +69,7 @@ fn value_name(values: &[EnumValueTable], place: usize) -> &str
     ensures { result.now ≡ text_at (map (λ v. v.id.name) (map enum_value_row values.now)) place }
 {
     match values.get(place) {
-        Some(value) => value.id.name.as_str(),
+        Some(value) => value.id.name(),
         None => "",
     }
 }
@@ -78,7 +78,7 @@ fn value_full_name(values: &[EnumValueTable], place: usize) -> &str
     ensures { result.now ≡ text_at (map (λ v. v.id.full_name) (map enum_value_row values.now)) place }
 {
     match values.get(place) {
-        Some(value) => value.id.full_name.as_str(),
+        Some(value) => value.id.full_name(),
         None => "",
     }
 }
@@ -139,7 +139,7 @@ impl LinkedPool {
         ensures { result.now ≡ text_at (map (λ m. m.id.full_name) (pool_rows self.now).messages) place }
     {
         match self.tables.messages.get(place) {
-            Some(message) => message.id.full_name.as_str(),
+            Some(message) => message.id.full_name(),
             None => "",
         }
     }
@@ -148,7 +148,7 @@ impl LinkedPool {
         ensures { result.now ≡ text_at (map (λ e. e.id.full_name) (pool_rows self.now).enums) place }
     {
         match self.tables.enums.get(place) {
-            Some(declared) => declared.id.full_name.as_str(),
+            Some(declared) => declared.id.full_name(),
             None => "",
         }
     }
@@ -166,7 +166,7 @@ impl LinkedPool {
         ensures { result.now ≡ text_at (map (extension_name (pool_rows self.now)) (pool_catalog self.now).extensions) place }
     {
         if place < self.extension_count() {
-            self.extension_field(place).id.full_name.as_str()
+            self.extension_field(place).id.full_name()
         } else {
             ""
         }
@@ -176,7 +176,7 @@ impl LinkedPool {
         ensures { result.now ≡ text_at (map (λ s. s.id.full_name) (pool_catalog self.now).services) place }
     {
         match self.catalog.services.get(place) {
-            Some(service) => service.id.full_name.as_str(),
+            Some(service) => service.id.full_name(),
             None => "",
         }
     }
@@ -303,7 +303,7 @@ impl LinkedPool {
     {
         let field = self.tables.field_table(message, number)?;
         if field.is_extension {
-            self.extension_place_by_full_name(message, field.id.full_name.as_str())
+            self.extension_place_by_full_name(message, field.id.full_name())
         } else {
             None
         }

@@ -15,11 +15,11 @@ use prost_reflect_shared::shared_slice::SharedSlice;
 use prost_reflect_tables::{Catalog, SortedPlaces, Tables};
 use prost_reflect_types::FileDescriptorProto;
 use std::alloc::Global;
+use std::fmt::{self, Debug, Formatter, Write};
 use std::rc::Rc;
 
 /// What the clones of a pool share: files that pass all checks, no two of one name, the tables that they link to, and their
 /// catalog.
-#[derive(Debug, Drop)]
 pub struct LinkedPool {
     /// The files, in the order in which they were added.
     pub(crate) files: Vec<Rc<FileDescriptorProto>>,
@@ -34,6 +34,26 @@ pub struct LinkedPool {
     pub ghost listed: { IsCatalogOf (shared_files files.items) catalog } by { catalog_prop (shared_files files.items) catalog },
     pub ghost names: { IsTrue (names_differ (shared_files files.items)) },
     pub ghost ranged: { IsTrue (in_range (rows_of tables)) },
+}
+
+impl Drop for LinkedPool {
+    fn drop(self) {
+        let LinkedPool {
+            files: _,
+            tables: _,
+            catalog: _,
+            identity: _,
+        } = self;
+    }
+}
+
+impl Debug for LinkedPool {
+    /// The names of the files.
+    fn fmt<W: Write>(&self, f: &mut Formatter<W>) -> fmt::Result {
+        f.debug_list()
+            .entries(self.files.iter().map(|file| &file.name))
+            .finish()
+    }
 }
 
 impl PartialEq for LinkedPool {

@@ -9,11 +9,17 @@ use std::alloc::AllocError;
 use std::rc::Rc;
 
 /// A message type of a shared pool.
-#[derive(PartialEq, Eq, Debug, Drop)]
+#[derive(PartialEq, Eq, Debug)]
 pub struct PooledType {
     index: usize,
     pool: Rc<LinkedPool>,
     pub ghost in_range: { index < length (pool_rows pool).messages },
+}
+
+impl Drop for PooledType {
+    fn drop(self) {
+        let PooledType { index: _, pool: _ } = self;
+    }
 }
 
 impl Clone for PooledType {

@@ -1,3 +1,2 @@
 mod Parts
 mod Places
-mod Equal

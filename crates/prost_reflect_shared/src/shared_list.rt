@@ -7,7 +7,6 @@ ghost use Rattle.prost_reflect_shared.specs.Items.{items_of, items_left, GivesIn
 use crate::pointers::{CHUNK, chunk_of, chunk_with, chunk_with_last, copied, taken};
 use crate::shared_items::SharedItems;
 use std::alloc::{AllocError, Global};
-use std::fmt::{self, Debug, Formatter, Write};
 use std::marker::Model;
 use std::ops::Index;
 use std::rc::Rc;
@@ -218,39 +217,5 @@ impl<T: Drop> Clone for SharedList<T> {
             chunks: copied(alloc, &self.chunks, self.chunks.len())?,
             rest: copied(alloc, &self.rest, self.rest.len())?,
         })
-    }
-}
-
-impl<T: PartialEq> PartialEq for SharedList<T> {
-    ghost use Rattle.std.specs.Cmp.Lexicographic.{pointwise, lists_per};
-    ghost use Rattle.prost_reflect_shared.specs.Items.{items_of};
-
-    ghost eq = { λ a b. pointwise T.eq (items_of a) (items_of b) };
-
-    ghost laws = { lists_per T.laws };
-
-    /// Whether there are as many items, and each is equal to the one at its place.
-    fn eq(&self, other: &SharedList<T>) -> bool {
-        if self.len() != other.len() {
-            return false;
-        }
-        for place in 0..self.len() {
-            if *self.at(place) != *other.at(place) {
-                return false;
-            }
-        }
-        true
-    }
-}
-
-impl<T: Eq> Eq for SharedList<T> {
-    ghost use Rattle.std.specs.Cmp.Lexicographic.{lists_equiv};
-
-    ghost laws = { lists_equiv T.Eq.laws };
-}
-
-impl<T: Debug> Debug for SharedList<T> {
-    fn fmt<W: Write>(&self, f: &mut Formatter<W>) -> fmt::Result {
-        f.debug_list().entries(self.iter()).finish()
     }
 }

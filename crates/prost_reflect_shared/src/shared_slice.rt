@@ -3,7 +3,6 @@
 ghost use Rattle.std.specs.Prelude.{◌≡◌, [], IfOk};
 
 use std::alloc::{AllocError, Global};
-use std::fmt::{self, Debug, Formatter, Write};
 use std::marker::Model;
 use std::rc::Rc;
 
@@ -76,29 +75,5 @@ impl<T: Drop> Clone for SharedSlice<T> {
             }),
             None => Ok(SharedSlice { items: None }),
         }
-    }
-}
-
-impl<T: PartialEq> PartialEq for SharedSlice<T> {
-    ghost use Rattle.std.specs.Cmp.Lexicographic.{pointwise, lists_per};
-
-    ghost eq = { λ a b. pointwise T.eq a b };
-
-    ghost laws = { lists_per T.laws };
-
-    fn eq(&self, other: &SharedSlice<T>) -> bool {
-        self.as_slice() == other.as_slice()
-    }
-}
-
-impl<T: Eq> Eq for SharedSlice<T> {
-    ghost use Rattle.std.specs.Cmp.Lexicographic.{lists_equiv};
-
-    ghost laws = { lists_equiv T.Eq.laws };
-}
-
-impl<T: Debug> Debug for SharedSlice<T> {
-    fn fmt<W: Write>(&self, f: &mut Formatter<W>) -> fmt::Result {
-        f.debug_list().entries(self.as_slice().iter()).finish()
     }
 }

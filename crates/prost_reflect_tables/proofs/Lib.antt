@@ -6,7 +6,6 @@ pub mod Ascending
 pub mod Keeping
 pub mod Fields
 mod Worked
-pub mod Equal
 mod WholeNumbers
 mod WholeBits
 mod Escapes
@@ -18,6 +17,7 @@ pub mod Sorting
 pub mod Grouping
 pub mod Gathering
 pub mod Orders
+mod Cutting
 pub mod TextsAt
 pub mod CatalogParts
 mod WorkedLinking

@@ -1,5 +1,5 @@
 -- The rows of the tables: what they say, and not where it lies in memory.
-use Rattle.std.specs.Prelude.{ℕ, ℤ, Bool, List, map, Option, option_map, string_bytes, Box}
+use Rattle.std.specs.Prelude.{ℕ, ℤ, Bool, List, map, Option, None, Some, option_map, take, drop, string_bytes, String as Text, Box}
 use Rattle.std.specs.declared.alloc.Global.{Global}
 use Rattle.prost_reflect_wire.specs.Scalar as scalars
 use Rattle.prost_reflect_wire.specs.Scalar.{Scalar}
@@ -7,6 +7,7 @@ use Rattle.prost_reflect_tables.specs.declared.tables.Cardinality.{Cardinality}
 use Rattle.prost_reflect_tables.specs.declared.tables.TableKind.{TableKind}
 use Rattle.prost_reflect_tables.specs.declared.tables.WrittenDefault.{WrittenDefault}
 use Rattle.prost_reflect_tables.specs.declared.tables.WrittenDefault.TheVariants.{Bool as BoolDefault, I32, I64, U32, U64, F32, F64, String, Bytes, EnumNumber}
+use Rattle.prost_reflect_tables.specs.declared.definition_names.DefinitionNames.{DefinitionNames}
 use Rattle.prost_reflect_tables.specs.declared.tables.Identity.{Identity}
 use Rattle.prost_reflect_tables.specs.declared.tables.FieldTable.{FieldTable}
 use Rattle.prost_reflect_tables.specs.declared.tables.OneofTable.{OneofTable}
@@ -78,13 +79,25 @@ written_scalar (EnumNumber z) = scalars.EnumNumber z
 abbrev pub boxed_scalar : Box WrittenDefault Global → Scalar
 boxed_scalar b = written_scalar b.value
 
+-- The full name stands at the front of the text of both names, the own name at its end.
+abbrev pub full_name_of : DefinitionNames → List ℕ
+full_name_of names = take names.end (string_bytes names.text)
+
+abbrev pub name_of : DefinitionNames → List ℕ
+name_of names = drop names.start (string_bytes names.text)
+
 abbrev pub identity_row : Identity → IdentityRow
-identity_row i = record { file = i.file; parent = i.parent; path = i.path.items; full_name = string_bytes i.full_name; name = string_bytes i.name }
+identity_row i = record { file = i.file; parent = i.parent; path = i.path.items; full_name = full_name_of i.names; name = name_of i.names }
+
+-- A name in JSON that is not stored is the own name.
+abbrev pub json_name_of : (json_name : Option (Box (Text Global) Global)) → (name : List ℕ) → List ℕ
+json_name_of None name = name
+json_name_of (Some text) name = string_bytes text.value
 
 abbrev pub field_row : FieldTable → FieldRow
 field_row f = record {
   id = identity_row f.id;
-  json_name = string_bytes f.json_name;
+  json_name = json_name_of f.json_name (name_of f.id.names);
   number = f.number;
   is_extension = f.is_extension;
   kind = f.kind;

@@ -6,7 +6,7 @@ use prost_reflect_shared::shared_list::SharedList;
 use prost_reflect_shared::shared_slice::SharedSlice;
 
 /// What stands in a file.
-#[derive(PartialEq, Eq, Debug, Drop)]
+#[derive(Drop)]
 pub struct FileTable {
     /// The message types at the top of the file, as places in the pool's list, in the order of their declaration.
     pub messages: Vec<usize>,
@@ -25,7 +25,7 @@ pub struct FileTable {
 }
 
 /// What is declared in a message type, and what is looked up in it.
-#[derive(PartialEq, Eq, Debug, Drop)]
+#[derive(Drop)]
 pub struct MessageLists {
     /// The message types declared in it, as places in the pool's list, in the order of their declaration.
     pub messages: Vec<usize>,
@@ -44,7 +44,7 @@ pub struct MessageLists {
 }
 
 /// What is looked up in an enum.
-#[derive(PartialEq, Eq, Debug, Drop)]
+#[derive(Drop)]
 pub struct EnumLists {
     /// The places of the values, by their names.
     pub by_name: Vec<usize>,
@@ -53,7 +53,7 @@ pub struct EnumLists {
 }
 
 /// Where the row of an extension stands.
-#[derive(PartialEq, Eq, Debug, Drop)]
+#[derive(Drop)]
 pub struct ExtensionTable {
     /// The place of the message type that it extends.
     pub message: usize,
@@ -62,7 +62,7 @@ pub struct ExtensionTable {
 }
 
 /// A method of a service.
-#[derive(PartialEq, Eq, Debug, Drop)]
+#[derive(Drop)]
 pub struct MethodTable {
     /// Where it stands.
     pub id: Identity,
@@ -73,7 +73,6 @@ pub struct MethodTable {
 }
 
 /// A service.
-#[derive(PartialEq, Eq, Debug, Drop)]
 pub struct ServiceTable {
     /// Where it stands.
     pub id: Identity,
@@ -81,8 +80,14 @@ pub struct ServiceTable {
     pub methods: Vec<MethodTable>,
 }
 
+impl Drop for ServiceTable {
+    fn drop(self) {
+        let ServiceTable { id: _, methods: _ } = self;
+    }
+}
+
 /// The places of all definitions of a sort, by their full names.
-#[derive(PartialEq, Eq, Debug, Drop)]
+#[derive(Drop)]
 pub struct SortedPlaces {
     /// The files, by their names.
     pub files: SharedSlice<usize>,
@@ -100,7 +105,6 @@ pub struct SortedPlaces {
 }
 
 /// What descriptors tell of a pool besides its rows.
-#[derive(PartialEq, Eq, Debug, Drop)]
 pub struct Catalog {
     /// The files, as they were added.
     pub files: SharedList<FileTable>,
@@ -114,4 +118,17 @@ pub struct Catalog {
     pub services: SharedList<ServiceTable>,
     /// The places of all of them, by their full names.
     pub by_name: SortedPlaces,
+}
+
+impl Drop for Catalog {
+    fn drop(self) {
+        let Catalog {
+            files: _,
+            messages: _,
+            enums: _,
+            extensions: _,
+            services: _,
+            by_name: _,
+        } = self;
+    }
 }

@@ -1,19 +1,11 @@
 //! What is proved of the tables: each function has no body, and its contract is a law.
 
-ghost use Rattle.std.specs.Prelude.{◌≡◌, ◌↔◌, IsTrue, List};
+ghost use Rattle.std.specs.Prelude.{◌↔◌, IsTrue, List};
 ghost use Rattle.std.specs.Cmp.Lexicographic.{pointwise};
 ghost use Rattle.prost_reflect_types.specs.declared.FileDescriptorProto.{FileDescriptorProto};
 ghost use Rattle.prost_reflect_tables.specs.FileLaws.{SameContents, EqualTables, EqualChecks, EqualRefusals};
-ghost use Rattle.prost_reflect_tables.specs.Schema.{rows_of};
-ghost use Rattle.prost_reflect_tables.specs.declared.tables.Tables.{Tables};
 
-use crate::tables::Tables;
 use prost_reflect_types::FileDescriptorProto;
-
-/// Tables are equal by `==` exactly where their rows are.
-pub fn tables_equality()
-    ensures { (a : Tables) (b : Tables) → IsTrue (⟦<Tables as PartialEq>⟧.eq a b) ↔ (rows_of a ≡ rows_of b) }
-{}
 
 /// Lists of files are equal by `==` exactly if both have as many files, and their contents are equal one by one.
 pub fn files_equality()

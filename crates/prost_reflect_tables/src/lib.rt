@@ -11,11 +11,13 @@
 
 mod build;
 mod catalog;
+mod definition_names;
 mod error;
 mod examples;
 mod field;
 mod laws;
 mod lookup;
+mod naming;
 mod scalar;
 mod tables;
 
@@ -31,12 +33,13 @@ pub use catalog::{
     Catalog, EnumLists, ExtensionTable, FileTable, MessageLists, MethodTable, ServiceTable,
     SortedPlaces,
 };
+pub use definition_names::DefinitionNames;
 pub use error::PoolError;
 pub use examples::{
     checking, contents_and_tables, defaults_read, defaults_refused, linking, shown_tables,
     tables_not_linked,
 };
-pub use laws::{equal_files, files_equality, tables_equality};
+pub use laws::{equal_files, files_equality};
 pub use scalar::ScalarRef;
 pub use tables::{
     Cardinality, EnumTable, EnumValueTable, FieldTable, Identity, MessageTable, OneofTable,

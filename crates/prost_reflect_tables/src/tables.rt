@@ -6,7 +6,9 @@ ghost use Rattle.std.specs.Prelude.{IsTrue};
 ghost use Rattle.prost_reflect_tables.specs.Rows.{rows_from};
 ghost use Rattle.prost_reflect_tables.specs.Linked.{is_linked};
 
+use crate::definition_names::DefinitionNames;
 use prost_reflect_shared::shared_list::SharedList;
+use smallvec::SmallVec;
 use std::alloc::AllocError;
 use std::fmt;
 
@@ -145,29 +147,38 @@ impl Clone for WrittenDefault {
     }
 }
 
-/// Where a definition stands.
-#[derive(PartialEq, Eq, Debug, Drop)]
+/// Where a definition stands, and how it is named.
 pub struct Identity {
     /// The place of its file in the list of files.
     pub file: usize,
     /// The place of the message type around it, or none at the top of a file.
     pub parent: Option<usize>,
-    /// The path in its file, as in `SourceCodeInfo.Location.path`.
-    pub path: Vec<i32>,
-    /// The package, the enclosing definitions and the name, joined by dots.
-    pub full_name: String,
-    /// The definition's own name, without its scope.
-    pub name: String,
+    /// The path in its file, as in `SourceCodeInfo.Location.path`. Up to four numbers, as of a field of a message at the top of its
+    /// file, take no memory of their own.
+    pub path: SmallVec<i32, 4>,
+    /// The full name, which is the package, the enclosing definitions and the name, joined by dots; and the own name, without its
+    /// scope.
+    pub names: DefinitionNames,
+}
+
+impl Drop for Identity {
+    fn drop(self) {
+        let Identity {
+            file: _,
+            parent: _,
+            path: _,
+            names: _,
+        } = self;
+    }
 }
 
 /// A field or an extension of a message type.
-#[derive(PartialEq, Eq, Debug, Drop)]
 pub struct FieldTable {
     /// Where the field stands. The message type around an extension is the one in which it is declared, if it is declared in one.
     pub id: Identity,
-    /// The name in JSON: of an extension the full name in brackets, of another field the name that its record gives, or else its
-    /// own name.
-    pub json_name: String,
+    /// The name in JSON, if it is not the own name: of an extension the full name in brackets, of another field the name that its
+    /// record gives, or else its own name.
+    pub json_name: Option<Box<String>>,
     /// The field number, from 1 to 536870911.
     pub number: u32,
     /// Whether the field is declared outside its message type, by `extend`.
@@ -188,8 +199,25 @@ pub struct FieldTable {
     pub oneof: Option<usize>,
 }
 
+impl Drop for FieldTable {
+    fn drop(self) {
+        let FieldTable {
+            id: _,
+            json_name: _,
+            number: _,
+            is_extension: _,
+            kind: _,
+            is_group: _,
+            cardinality: _,
+            is_packed: _,
+            supports_presence: _,
+            default: _,
+            oneof: _,
+        } = self;
+    }
+}
+
 /// A oneof of a message type.
-#[derive(PartialEq, Eq, Debug, Drop)]
 pub struct OneofTable {
     /// Where the oneof stands.
     pub id: Identity,
@@ -197,8 +225,13 @@ pub struct OneofTable {
     pub fields: Vec<usize>,
 }
 
+impl Drop for OneofTable {
+    fn drop(self) {
+        let OneofTable { id: _, fields: _ } = self;
+    }
+}
+
 /// A message type.
-#[derive(PartialEq, Eq, Debug, Drop)]
 pub struct MessageTable {
     /// Where the message type stands.
     pub id: Identity,
@@ -210,8 +243,19 @@ pub struct MessageTable {
     pub oneofs: Vec<OneofTable>,
 }
 
+impl Drop for MessageTable {
+    fn drop(self) {
+        let MessageTable {
+            id: _,
+            is_map_entry: _,
+            fields: _,
+            oneofs: _,
+        } = self;
+    }
+}
+
 /// A value of an enum.
-#[derive(PartialEq, Eq, Debug, Drop)]
+#[derive(Drop)]
 pub struct EnumValueTable {
     /// Where the value stands. Its full name stands in the scope around its enum.
     pub id: Identity,
@@ -220,7 +264,6 @@ pub struct EnumValueTable {
 }
 
 /// An enum.
-#[derive(PartialEq, Eq, Debug, Drop)]
 pub struct EnumTable {
     /// Where the enum stands.
     pub id: Identity,
@@ -230,12 +273,30 @@ pub struct EnumTable {
     pub is_closed: bool,
 }
 
+impl Drop for EnumTable {
+    fn drop(self) {
+        let EnumTable {
+            id: _,
+            values: _,
+            is_closed: _,
+        } = self;
+    }
+}
+
 /// The message types and enums of a pool, linked: every place that they name is there.
-#[derive(PartialEq, Eq, Debug, Drop)]
 pub struct Tables {
     /// The message types, nested ones too.
     pub messages: SharedList<MessageTable>,
     /// The enums, nested ones too.
     pub enums: SharedList<EnumTable>,
     pub ghost linked: { IsTrue (is_linked (rows_from messages enums)) },
+}
+
+impl Drop for Tables {
+    fn drop(self) {
+        let Tables {
+            messages: _,
+            enums: _,
+        } = self;
+    }
 }

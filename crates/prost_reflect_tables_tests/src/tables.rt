@@ -143,7 +143,7 @@ fn show_flags(seen: &mut String, field: &FieldTable) -> Result<(), AllocError> {
 }
 
 fn show_message(seen: &mut String, message: &MessageTable) -> Result<(), AllocError> {
-    write!(seen, "{} {}: ", message.id.full_name, message.is_map_entry)?;
+    write!(seen, "{} {}: ", message.id.full_name(), message.is_map_entry)?;
     for field in &message.fields {
         show_field(seen, field)?;
     }
@@ -159,7 +159,7 @@ fn shown(alloc: Global, tables: &Tables) -> Result<String, AllocError> {
         show_message(&mut seen, message)?;
     }
     for item in &tables.enums {
-        write!(seen, "{} ", item.id.full_name)?;
+        write!(seen, "{} ", item.id.full_name())?;
         for value in &item.values {
             write!(seen, "{} ", value.number)?;
         }
@@ -220,7 +220,7 @@ fn linked_proto2(rt: HostRuntime) -> Result<(), Fail> {
 /// The place of the file, that of the message around it, the path, the full name and the name.
 fn show_identity(seen: &mut String, id: &Identity) -> Result<(), AllocError> {
     write!(seen, "{} {:?} {:?} ", id.file, id.parent, id.path)?;
-    write!(seen, "{} {}", id.full_name, id.name)?;
+    write!(seen, "{} {}", id.full_name(), id.name())?;
     Ok(())
 }
 
@@ -230,7 +230,7 @@ fn show_identities(seen: &mut String, message: &MessageTable) -> Result<(), Allo
     for field in &message.fields {
         seen.push_str("; ")?;
         show_identity(seen, &field.id)?;
-        write!(seen, " {}", field.json_name)?;
+        write!(seen, " {}", field.json_name())?;
     }
     for oneof in &message.oneofs {
         seen.push_str("; ")?;
@@ -378,7 +378,7 @@ fn says_what_is_called(catalog: &Catalog) -> bool {
     let [send] = post.methods.as_slice() else {
         return false;
     };
-    post.id.full_name.as_str() == "t.Post" && send.input == 0 && send.output == 2
+    post.id.full_name() == "t.Post" && send.input == 0 && send.output == 2
 }
 
 /// The file that is imported stands behind the one that imports it.

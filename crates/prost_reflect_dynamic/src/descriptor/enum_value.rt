@@ -11,11 +11,20 @@ use prost_reflect_types::EnumValueDescriptorProto;
 use std::alloc::AllocError;
 
 /// A value of an enum.
-#[derive(PartialEq, Eq, Debug, Drop)]
+#[derive(PartialEq, Eq, Debug)]
 pub struct EnumValueDescriptor {
     index: usize,
     parent: EnumDescriptor,
     pub ghost in_range: { index < length (values_of parent) },
+}
+
+impl Drop for EnumValueDescriptor {
+    fn drop(self) {
+        let EnumValueDescriptor {
+            index: _,
+            parent: _,
+        } = self;
+    }
 }
 
 impl Clone for EnumValueDescriptor {
@@ -86,14 +95,14 @@ impl EnumValueDescriptor {
     pub fn name(&self) -> &str
         ensures { option_map (λ value. value.id.name) (value_row_named self.now) ≡ Some result.now }
     {
-        self.table().id.name.as_str()
+        self.table().id.name()
     }
 
     /// The scope around the enum and the value's name, joined by a dot: the enum's own name is no part of it.
     pub fn full_name(&self) -> &str
         ensures { option_map (λ value. value.id.full_name) (value_row_named self.now) ≡ Some result.now }
     {
-        self.table().id.full_name.as_str()
+        self.table().id.full_name()
     }
 
     /// The path in the file, as in `SourceCodeInfo.Location.path`.

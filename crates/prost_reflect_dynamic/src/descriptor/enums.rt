@@ -16,11 +16,17 @@ use prost_reflect_walks::Places;
 use std::alloc::AllocError;
 
 /// An enum of a pool.
-#[derive(PartialEq, Eq, Debug, Drop)]
+#[derive(PartialEq, Eq, Debug)]
 pub struct EnumDescriptor {
     index: usize,
     pool: DescriptorPool,
     pub ghost in_range: { index < length (pool_rows pool.inner).enums },
+}
+
+impl Drop for EnumDescriptor {
+    fn drop(self) {
+        let EnumDescriptor { index: _, pool: _ } = self;
+    }
 }
 
 impl Clone for EnumDescriptor {
@@ -87,7 +93,7 @@ impl EnumDescriptor {
     pub fn full_name(&self) -> &str
         ensures { option_map (λ e. e.id.full_name) (enum_row_at self.now) ≡ Some result.now }
     {
-        self.table().id.full_name.as_str()
+        self.table().id.full_name()
     }
 
     /// The file that declares the enum.
@@ -119,7 +125,7 @@ impl EnumDescriptor {
     pub fn name(&self) -> &str
         ensures { option_map (λ e. e.id.name) (enum_row_at self.now) ≡ Some result.now }
     {
-        self.table().id.name.as_str()
+        self.table().id.name()
     }
 
     /// The package of the file, empty where it has none.

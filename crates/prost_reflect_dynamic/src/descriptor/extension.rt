@@ -16,11 +16,17 @@ use prost_reflect_types::{FieldDescriptorProto, FileDescriptorProto};
 use std::alloc::{AllocError, Global};
 
 /// An extension of a message type (the proto2 guide, "Extensions").
-#[derive(PartialEq, Eq, Debug, Drop)]
+#[derive(PartialEq, Eq, Debug)]
 pub struct ExtensionDescriptor {
     index: usize,
     pool: DescriptorPool,
     pub ghost in_range: { index < length (pool_catalog pool.inner).extensions },
+}
+
+impl Drop for ExtensionDescriptor {
+    fn drop(self) {
+        let ExtensionDescriptor { index: _, pool: _ } = self;
+    }
 }
 
 impl Clone for ExtensionDescriptor {
@@ -128,14 +134,14 @@ impl ExtensionDescriptor {
     pub fn name(&self) -> &str
         ensures { option_map (λ field. field.id.name) (extension_row_named self.now) ≡ Some result.now }
     {
-        self.table().id.name.as_str()
+        self.table().id.name()
     }
 
     /// The package, the enclosing message types and the name, joined by dots.
     pub fn full_name(&self) -> &str
         ensures { option_map (λ field. field.id.full_name) (extension_row_named self.now) ≡ Some result.now }
     {
-        self.table().id.full_name.as_str()
+        self.table().id.full_name()
     }
 
     /// The package of the file, empty where it has none.
@@ -195,7 +201,7 @@ impl ExtensionDescriptor {
     pub fn json_name(&self) -> &str
         ensures { option_map (λ field. field.json_name) (extension_row_named self.now) ≡ Some result.now }
     {
-        self.table().json_name.as_str()
+        self.table().json_name()
     }
 
     /// Whether a message value is written as a group.

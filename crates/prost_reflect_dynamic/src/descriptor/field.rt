@@ -16,11 +16,20 @@ use prost_reflect_types::FieldDescriptorProto;
 use std::alloc::{AllocError, Global};
 
 /// A field of a message type.
-#[derive(PartialEq, Eq, Debug, Drop)]
+#[derive(PartialEq, Eq, Debug)]
 pub struct FieldDescriptor {
     index: usize,
     message: MessageDescriptor,
     pub ghost declared: { IsTrue (is_declared_at (descriptor_fields message) index) },
+}
+
+impl Drop for FieldDescriptor {
+    fn drop(self) {
+        let FieldDescriptor {
+            index: _,
+            message: _,
+        } = self;
+    }
 }
 
 impl Clone for FieldDescriptor {
@@ -106,14 +115,14 @@ impl FieldDescriptor {
     pub fn name(&self) -> &str
         ensures { option_map (λ field. field.id.name) (row_at self.now) ≡ Some result.now }
     {
-        self.table().id.name.as_str()
+        self.table().id.name()
     }
 
     /// The full name of the message type and the field's name, joined by a dot.
     pub fn full_name(&self) -> &str
         ensures { option_map (λ field. field.id.full_name) (row_at self.now) ≡ Some result.now }
     {
-        self.table().id.full_name.as_str()
+        self.table().id.full_name()
     }
 
     /// The path in the file, as in `SourceCodeInfo.Location.path`.
@@ -152,7 +161,7 @@ impl FieldDescriptor {
     pub fn json_name(&self) -> &str
         ensures { option_map (λ field. field.json_name) (row_at self.now) ≡ Some result.now }
     {
-        self.table().json_name.as_str()
+        self.table().json_name()
     }
 
     /// The field number, from 1 to 536870911.

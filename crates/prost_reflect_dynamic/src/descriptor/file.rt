@@ -25,11 +25,17 @@ pub enum Syntax {
 }
 
 /// A file of a pool.
-#[derive(PartialEq, Eq, Debug, Drop)]
+#[derive(PartialEq, Eq, Debug)]
 pub struct FileDescriptor {
     index: usize,
     pool: DescriptorPool,
     pub ghost in_range: { index < length (files_of pool.inner) },
+}
+
+impl Drop for FileDescriptor {
+    fn drop(self) {
+        let FileDescriptor { index: _, pool: _ } = self;
+    }
 }
 
 impl Clone for FileDescriptor {

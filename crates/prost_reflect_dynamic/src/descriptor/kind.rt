@@ -282,11 +282,11 @@ pub(crate) fn kind_name(pool: Option<&LinkedPool>, kind: TableKind) -> &str
         TableKind::String => "string",
         TableKind::Bytes => "bytes",
         TableKind::Message(place) => match message_at(pool, place) {
-            Some(message) => message.id.full_name.as_str(),
+            Some(message) => message.id.full_name(),
             None => "",
         },
         TableKind::Enum(place) => match enum_at(pool, place) {
-            Some(found) => found.id.full_name.as_str(),
+            Some(found) => found.id.full_name(),
             None => "",
         },
     }

@@ -18,11 +18,17 @@ use prost_reflect_walks::Places;
 use std::alloc::AllocError;
 
 /// A message type of a pool.
-#[derive(PartialEq, Eq, Debug, Drop)]
+#[derive(PartialEq, Eq, Debug)]
 pub struct MessageDescriptor {
     index: usize,
     pool: DescriptorPool,
     pub ghost in_range: { index < length (pool_rows pool.inner).messages },
+}
+
+impl Drop for MessageDescriptor {
+    fn drop(self) {
+        let MessageDescriptor { index: _, pool: _ } = self;
+    }
 }
 
 impl Clone for MessageDescriptor {
@@ -93,7 +99,8 @@ impl MessageDescriptor {
     pub(crate) fn into_type(self) -> PooledType
         ensures { IsNamed self result }
     {
-        PooledType::new(self.pool.inner, self.index)
+        let MessageDescriptor { index, pool } = self;
+        PooledType::new(pool.into_inner(), index)
     }
 
     /// Whether the descriptor names the message type, or an equal one of another pool.
@@ -139,14 +146,14 @@ impl MessageDescriptor {
     pub fn name(&self) -> &str
         ensures { option_map (λ message. message.id.name) (message_row_named self.now) ≡ Some result.now }
     {
-        self.table().id.name.as_str()
+        self.table().id.name()
     }
 
     /// The package, the enclosing message types and the name, joined by dots.
     pub fn full_name(&self) -> &str
         ensures { option_map (λ message. message.id.full_name) (message_row_named self.now) ≡ Some result.now }
     {
-        self.table().id.full_name.as_str()
+        self.table().id.full_name()
     }
 
     /// The package of the file, empty where it has none.

@@ -13,11 +13,20 @@ use prost_reflect_types::MethodDescriptorProto;
 use std::alloc::AllocError;
 
 /// A method of a service.
-#[derive(PartialEq, Eq, Debug, Drop)]
+#[derive(PartialEq, Eq, Debug)]
 pub struct MethodDescriptor {
     index: usize,
     service: ServiceDescriptor,
     pub ghost in_range: { index < length (methods_of service) },
+}
+
+impl Drop for MethodDescriptor {
+    fn drop(self) {
+        let MethodDescriptor {
+            index: _,
+            service: _,
+        } = self;
+    }
 }
 
 impl Clone for MethodDescriptor {
@@ -102,14 +111,14 @@ impl MethodDescriptor {
     pub fn name(&self) -> &str
         ensures { option_map (λ method. method.id.name) (method_row_named self.now) ≡ Some result.now }
     {
-        self.table().id.name.as_str()
+        self.table().id.name()
     }
 
     /// The full name of the service and the method's name, joined by a dot.
     pub fn full_name(&self) -> &str
         ensures { option_map (λ method. method.id.full_name) (method_row_named self.now) ≡ Some result.now }
     {
-        self.table().id.full_name.as_str()
+        self.table().id.full_name()
     }
 
     /// The path in the file, as in `SourceCodeInfo.Location.path`.

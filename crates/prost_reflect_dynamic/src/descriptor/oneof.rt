@@ -14,11 +14,20 @@ use prost_reflect_walks::Places;
 use std::alloc::AllocError;
 
 /// A oneof of a message type (the proto3 guide, "Oneof").
-#[derive(PartialEq, Eq, Debug, Drop)]
+#[derive(PartialEq, Eq, Debug)]
 pub struct OneofDescriptor {
     index: usize,
     message: MessageDescriptor,
     pub ghost in_range: { index < length (oneofs_of message) },
+}
+
+impl Drop for OneofDescriptor {
+    fn drop(self) {
+        let OneofDescriptor {
+            index: _,
+            message: _,
+        } = self;
+    }
 }
 
 impl Clone for OneofDescriptor {
@@ -94,14 +103,14 @@ impl OneofDescriptor {
     pub fn name(&self) -> &str
         ensures { option_map (λ oneof. oneof.id.name) (oneof_row_named self.now) ≡ Some result.now }
     {
-        self.table().id.name.as_str()
+        self.table().id.name()
     }
 
     /// The full name of the message type and the oneof's name, joined by a dot.
     pub fn full_name(&self) -> &str
         ensures { option_map (λ oneof. oneof.id.full_name) (oneof_row_named self.now) ≡ Some result.now }
     {
-        self.table().id.full_name.as_str()
+        self.table().id.full_name()
     }
 
     /// The path in the file, as in `SourceCodeInfo.Location.path`.

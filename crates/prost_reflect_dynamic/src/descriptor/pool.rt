@@ -11,9 +11,15 @@ use std::rc::Rc;
 
 /// Files with what they define, as message types, enums, extensions and services, which descriptors name by their places. A
 /// clone shares them.
-#[derive(PartialEq, Eq, Debug, Drop)]
+#[derive(PartialEq, Eq, Debug)]
 pub struct DescriptorPool {
     pub(crate) inner: Rc<LinkedPool>,
+}
+
+impl Drop for DescriptorPool {
+    fn drop(self) {
+        let DescriptorPool { inner: _ } = self;
+    }
 }
 
 impl Clone for DescriptorPool {
@@ -34,6 +40,14 @@ impl DescriptorPool {
     ghost use Rattle.prost_reflect_pool.specs.SharedPools.{files_of, pool_rows, pool_catalog};
     ghost use Rattle.prost_reflect_pool.specs.Lookups.{file_place, enum_place, extension_place, service_place};
     ghost use Rattle.prost_reflect_walks.specs.Places.{places_from, places_left};
+
+    /// What its clones share.
+    pub(crate) fn into_inner(self) -> Rc<LinkedPool>
+        ensures { result ≡ self.inner }
+    {
+        let DescriptorPool { inner } = self;
+        inner
+    }
 
     /// The files, in the order in which they were added.
     pub fn files(&self) -> Descriptors<'_, DescriptorPool, FileDescriptor>

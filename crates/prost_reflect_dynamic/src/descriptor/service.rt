@@ -12,11 +12,17 @@ use prost_reflect_walks::Places;
 use std::alloc::AllocError;
 
 /// A service of a pool (the language guide, "Defining Services").
-#[derive(PartialEq, Eq, Debug, Drop)]
+#[derive(PartialEq, Eq, Debug)]
 pub struct ServiceDescriptor {
     index: usize,
     pool: DescriptorPool,
     pub ghost in_range: { index < length (pool_catalog pool.inner).services },
+}
+
+impl Drop for ServiceDescriptor {
+    fn drop(self) {
+        let ServiceDescriptor { index: _, pool: _ } = self;
+    }
 }
 
 impl Clone for ServiceDescriptor {
@@ -93,14 +99,14 @@ impl ServiceDescriptor {
     pub fn name(&self) -> &str
         ensures { option_map (λ service. service.id.name) (service_row_named self.now) ≡ Some result.now }
     {
-        self.table().id.name.as_str()
+        self.table().id.name()
     }
 
     /// The package and the name, joined by a dot.
     pub fn full_name(&self) -> &str
         ensures { option_map (λ service. service.id.full_name) (service_row_named self.now) ≡ Some result.now }
     {
-        self.table().id.full_name.as_str()
+        self.table().id.full_name()
     }
 
     /// The package of the file, empty where it has none.

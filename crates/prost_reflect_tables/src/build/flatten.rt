@@ -28,7 +28,6 @@ pub struct Scope<'a> {
 }
 
 /// A definition with its record.
-#[derive(Drop)]
 pub struct Definition<'a, R> {
     /// The package, the enclosing definitions and the name, joined by dots.
     pub full_name: String,
@@ -44,8 +43,20 @@ pub struct Definition<'a, R> {
     pub proto: &'a R,
 }
 
+impl<'a, R> Drop for Definition<'a, R> {
+    fn drop(self) {
+        let Definition {
+            full_name: _,
+            path: _,
+            file: _,
+            is_proto3: _,
+            parent: _,
+            proto: _,
+        } = self;
+    }
+}
+
 /// A definition that is lent.
-#[derive(Drop)]
 pub struct DefinitionRef<'f, R> {
     /// Its full name.
     pub full_name: &'f str,
@@ -59,6 +70,19 @@ pub struct DefinitionRef<'f, R> {
     pub parent: Option<usize>,
     /// The record.
     pub proto: &'f R,
+}
+
+impl<'f, R> Drop for DefinitionRef<'f, R> {
+    fn drop(self) {
+        let DefinitionRef {
+            full_name: _,
+            path: _,
+            file: _,
+            is_proto3: _,
+            parent: _,
+            proto: _,
+        } = self;
+    }
 }
 
 impl<'a, R> Definition<'a, R> {
@@ -78,7 +102,6 @@ impl<'a, R> Definition<'a, R> {
 }
 
 /// A message with the definitions in it that no other message has.
-#[derive(Drop)]
 pub struct FlatMessage<'a> {
     /// The message itself.
     pub definition: Definition<'a, DescriptorProto>,
@@ -88,8 +111,17 @@ pub struct FlatMessage<'a> {
     pub oneofs: Vec<Definition<'a, OneofDescriptorProto>>,
 }
 
+impl<'a> Drop for FlatMessage<'a> {
+    fn drop(self) {
+        let FlatMessage {
+            definition: _,
+            fields: _,
+            oneofs: _,
+        } = self;
+    }
+}
+
 /// An enum with its values.
-#[derive(Drop)]
 pub struct FlatEnum<'a> {
     /// The enum itself.
     pub definition: Definition<'a, EnumDescriptorProto>,
@@ -97,13 +129,30 @@ pub struct FlatEnum<'a> {
     pub values: Vec<Definition<'a, EnumValueDescriptorProto>>,
 }
 
+impl<'a> Drop for FlatEnum<'a> {
+    fn drop(self) {
+        let FlatEnum {
+            definition: _,
+            values: _,
+        } = self;
+    }
+}
+
 /// A service with its methods.
-#[derive(Drop)]
 pub struct FlatService<'a> {
     /// The service itself.
     pub definition: Definition<'a, ServiceDescriptorProto>,
     /// Its methods.
     pub methods: Vec<Definition<'a, MethodDescriptorProto>>,
+}
+
+impl<'a> Drop for FlatService<'a> {
+    fn drop(self) {
+        let FlatService {
+            definition: _,
+            methods: _,
+        } = self;
+    }
 }
 
 /// The definitions of files, by file and then by path.

@@ -25,6 +25,21 @@ returns-in_err-index-clause-stands c =
     rw (p.1, p.2)
     (λ ne. subst (λ (fs : List FileDescriptorProto). Stands fault (fs ++ added) (flattened (fs ++ added))) c.of-base.ensures.files (all_refused files added new is c.of-base.result.pool.now.built.0 fault (c.in_err-index.ensures.stands ne)))
 
+pub returns-in_err-fields-clause-stands : goal.returns-in_err-fields-clause-stands
+returns-in_err-fields-clause-stands c =
+    let p = err_from_is_err_and c.from_residual-in_err-fields.result c.from_residual-in_err-fields.ensures.1 in
+    rw (p.1) (λ ne. absurd (ne p.2))
+
+pub returns-in_err-extensions-clause-stands : goal.returns-in_err-extensions-clause-stands
+returns-in_err-extensions-clause-stands c =
+    let p = err_from_is_err_and c.from_residual-in_err-extensions.result c.from_residual-in_err-extensions.ensures.1 in
+    rw (p.1) (λ ne. absurd (ne p.2))
+
+pub returns-in_err-messages-clause-stands : goal.returns-in_err-messages-clause-stands
+returns-in_err-messages-clause-stands c =
+    let p = err_from_is_err_and c.from_residual-in_err-messages.result c.from_residual-in_err-messages.ensures.1 in
+    rw (p.1) (λ ne. absurd (ne p.2))
+
 pub linked-requires-clause-fields : goal.linked-requires-clause-fields
 linked-requires-clause-fields c =
     let new = flat_rows c.in_ok-flat.flat in

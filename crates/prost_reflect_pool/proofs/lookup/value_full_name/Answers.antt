@@ -5,7 +5,7 @@ use Rattle.prost_reflect_pool.proofs.lookup.value_full_name.Goals as goal
 pub returns-in-Some : goal.returns-in-Some
 returns-in-Some c =
     let h = c.in-Some.ensures.lookup.3 in
-    c.as_str.ensures.value ∙ text_there enum_value_row value_full_name c.args.values.now _ c.args.place c.in-Some.value.now refl h.0 (h.1 c.in-Some.value.now)
+    c.full_name.ensures ∙ text_there enum_value_row value_full_name c.args.values.now _ c.args.place c.in-Some.value.now refl h.0 (h.1 c.in-Some.value.now)
 
 pub returns-in-None : goal.returns-in-None
 returns-in-None c = no_text enum_value_row value_full_name c.args.values.now c.args.values.now c.args.place refl (let h = c.in-None.ensures.lookup in search rules)

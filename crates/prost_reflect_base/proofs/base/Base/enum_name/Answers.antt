@@ -11,7 +11,7 @@ use Rattle.prost_reflect_base.proofs.base.Base.enum_name.Goals as goal
 pub returns-in-Some : goal.returns-in-Some
 returns-in-Some c =
     let pool = c.args.self.now.pool.now in
-    c.as_str.ensures.value
+    c.full_name.ensures
     ∙ name_there enum_row enum_name c.tables.result.now.enums (pool_rows pool).enums (enum_names (flat_of pool)) c.args.place c.in-Some.declared.now (ap (λ (r : TableRows). r.enums) c.tables.ensures) (enums_named pool)
     (sym c.get.ensures ∙ ap option_copied c.in-Some.is)
 

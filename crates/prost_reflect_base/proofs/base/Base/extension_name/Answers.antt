@@ -7,7 +7,7 @@ use Rattle.prost_reflect_base.proofs.NamedPlaces.{extension_there, name_past}
 use Rattle.prost_reflect_base.proofs.base.Base.extension_name.Goals as goal
 
 pub returns-then-place-extension_count : goal.returns-then-place-extension_count
-returns-then-place-extension_count c = c.as_str.ensures.value ∙ extension_there c.args.self.now.pool.now c.args.place (field_row c.extension_field.result.now) c.extension_field.ensures.row
+returns-then-place-extension_count c = c.full_name.ensures ∙ extension_there c.args.self.now.pool.now c.args.place (field_row c.extension_field.result.now) c.extension_field.ensures.row
 
 pub returns-else-place-extension_count : goal.returns-else-place-extension_count
 returns-else-place-extension_count c =

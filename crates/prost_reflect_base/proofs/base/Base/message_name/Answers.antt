@@ -11,7 +11,7 @@ use Rattle.prost_reflect_base.proofs.base.Base.message_name.Goals as goal
 pub returns-in-Some : goal.returns-in-Some
 returns-in-Some c =
     let pool = c.args.self.now.pool.now in
-    c.as_str.ensures.value
+    c.full_name.ensures
     ∙ name_there message_row message_name c.tables.result.now.messages (pool_rows pool).messages (message_names (flat_of pool)) c.args.place c.in-Some.message.now (ap (λ (r : TableRows). r.messages) c.tables.ensures) (messages_named pool)
     (sym c.get.ensures ∙ ap option_copied c.in-Some.is)
 

@@ -12,7 +12,7 @@ use Rattle.prost_reflect_base.proofs.base.Base.service_name.Goals as goal
 pub returns-in-Some : goal.returns-in-Some
 returns-in-Some c =
     let pool = c.args.self.now.pool.now in
-    c.as_str.ensures.value
+    c.full_name.ensures
     ∙ name_there service_table_row service_name c.catalog.result.now.services (pool_catalog pool).services (service_names (flat_of pool)) c.args.place c.in-Some.service.now (ap (λ (k : Catalog). map service_table_row k.services) c.catalog.ensures) (services_named pool)
     (sym c.get.ensures ∙ ap option_copied c.in-Some.is)
 

@@ -9,7 +9,7 @@ pub returns-in-Some : goal.returns-in-Some
 returns-in-Some c =
     let xs = c.args.self.now.tables.enums in
     let found = sym c.get.ensures ∙ ap option_copied c.in-Some.is in
-    c.as_str.ensures.value
+    c.full_name.ensures
     ∙ text_there enum_row enum_name xs xs c.args.place c.in-Some.declared.now refl (slice_get_within xs c.args.place c.in-Some.declared.now found)
     (sym (get_or_from_slice_get xs c.args.place c.in-Some.declared.now c.in-Some.declared.now found))
 

@@ -11,7 +11,7 @@ returns-in_err-field-clause-found c =
 pub returns-then-field-clause-found : goal.returns-then-field-clause-found
 returns-then-field-clause-found c =
     c.extension_place_by_full_name.ensures.found
-    ∙ ap (λ (name : List ℕ). extension_where c.args.self.now c.args.message (λ g. bytes_eq g.id.full_name name)) c.as_str.ensures.value
+    ∙ ap (λ (name : List ℕ). extension_where c.args.self.now c.args.message (λ g. bytes_eq g.id.full_name name)) c.full_name.ensures
     ∙ number_named c.args.self.now c.args.message c.args.number (field_row c.in_ok-field.field.now) c.requires (sym c.in_ok-field.ensures.row) c.if-field.true
 
 pub returns-else-field-clause-found : goal.returns-else-field-clause-found

@@ -9,7 +9,7 @@ pub returns-in-Some : goal.returns-in-Some
 returns-in-Some c =
     let xs = c.args.self.now.tables.messages in
     let found = sym c.get.ensures ∙ ap option_copied c.in-Some.is in
-    c.as_str.ensures.value
+    c.full_name.ensures
     ∙ text_there message_row message_name xs xs c.args.place c.in-Some.message.now refl (slice_get_within xs c.args.place c.in-Some.message.now found)
     (sym (get_or_from_slice_get xs c.args.place c.in-Some.message.now c.in-Some.message.now found))
 
