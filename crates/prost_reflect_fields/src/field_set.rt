@@ -34,10 +34,19 @@ use std::marker::Model;
 /// Only the numbers of fields and extensions have values, and at most one member of a oneof has one. Unknown fields are kept at
 /// their own numbers: all of them at a number that no field has, and at that of a field those alone that give it no value, since
 /// its closed enum does not declare the number that they hold.
-#[derive(Debug, Drop)]
+#[derive(Debug)]
 pub struct FieldSet<V> {
     message_type: PooledType,
     fields: SortedMap<FieldSlot<V>>,
+}
+
+impl<V: Drop> Drop for FieldSet<V> {
+    fn drop(self) {
+        let FieldSet {
+            message_type: _,
+            fields: _,
+        } = self;
+    }
 }
 
 impl<V> Model for FieldSet<V> {

@@ -126,7 +126,10 @@ fn show_field(seen: &mut String, field: &FieldTable) -> Result<(), AllocError> {
     write!(
         seen,
         "{} {} {:?} {:?} ",
-        field.number, field.id.name, field.kind, field.cardinality
+        field.number,
+        field.id.name(),
+        field.kind,
+        field.cardinality
     )?;
     show_flags(seen, field)?;
     write!(seen, "{:?} {:?}; ", field.default, field.oneof)?;
@@ -143,12 +146,17 @@ fn show_flags(seen: &mut String, field: &FieldTable) -> Result<(), AllocError> {
 }
 
 fn show_message(seen: &mut String, message: &MessageTable) -> Result<(), AllocError> {
-    write!(seen, "{} {}: ", message.id.full_name(), message.is_map_entry)?;
+    write!(
+        seen,
+        "{} {}: ",
+        message.id.full_name(),
+        message.is_map_entry
+    )?;
     for field in &message.fields {
         show_field(seen, field)?;
     }
     for oneof in &message.oneofs {
-        write!(seen, "oneof {} {:?}; ", oneof.id.name, oneof.fields)?;
+        write!(seen, "oneof {} {:?}; ", oneof.id.name(), oneof.fields)?;
     }
     Ok(())
 }
