@@ -1,5 +1,5 @@
 -- Where a text may be cut, as that of the two names of a definition.
-use Rattle.std.proofs.Common.{◌≡◌, ◌-◌, ◌+◌, ℕ, List, length, drop, true, refl, sym, ap, ◌∙◌, subst, arith, nat_eq, length-append}
+use Rattle.std.proofs.Common.{◌≡◌, ◌-◌, ◌+◌, ℕ, List, length, drop, true, sym, ap, ◌∙◌, subst, arith, nat_eq}
 use Rattle.std.specs.Str.{IsUtf8, IsCharBoundary}
 use Rattle.std.specs.Cmp.Lexicographic.{pointwise}
 use Rattle.std.proofs.lemmas.Str.{IsCharBoundary-from_drop}

@@ -1,4 +1,4 @@
-use Rattle.std.proofs.Common.{rules, ◌≡◌, string_bytes, take, drop, ℕ, length, List, ◌++◌, refl, ◌∙◌, ap, subst, sym}
+use Rattle.std.proofs.Common.{rules, ◌≡◌, string_bytes, length, ◌++◌, refl, subst, sym}
 use Rattle.std.specs.Str.{IsCharBoundary}
 use Rattle.std.proofs.lemmas.Str.{IsCharBoundary-at_seam}
 use Rattle.prost_reflect_tables.proofs.Cutting.{before_end, at_end}
