@@ -1,3 +1,2 @@
 mod Common
-mod Repeats
 mod ListedSpans

@@ -8,8 +8,8 @@ ghost use Rattle.prost_reflect_resolving.specs.Resolved.{resolved_row, IsResolve
 ghost use Rattle.prost_reflect_checks.specs.Added.{added_bad_default, added_float_default};
 ghost use Rattle.prost_reflect_tables.specs.ResolvedFaults.{misplaced, unread, bad_read, bad_float};
 
-use crate::fields::{is_code, is_message_type};
 use crate::walk::{any_resolved_extension, any_resolved_field};
+use prost_reflect_definition_checks::fields::{is_code, is_message_type};
 use prost_reflect_resolving::{Resolved, ResolvedField};
 use prost_reflect_tables::Flat;
 

@@ -9,8 +9,9 @@ ghost use Rattle.prost_reflect_resolving.specs.Resolved.{resolved_row, IsResolve
 ghost use Rattle.prost_reflect_checks.specs.Added.{added_map_entry};
 ghost use Rattle.prost_reflect_tables.specs.ResolvedFaults.{flat_message_at, found_of_entry, wrongly_found};
 
-use crate::fields::{is_code, is_message_type, is_type};
-use crate::walk::{any_method, any_resolved_extension, any_resolved_field};
+use crate::walk::{any_resolved_extension, any_resolved_field};
+use prost_reflect_definition_checks::fields::{is_code, is_message_type, is_type};
+use prost_reflect_definition_checks::walk::any_method;
 use prost_reflect_resolving::{Resolved, ResolvedField, message_place};
 use prost_reflect_tables::{Definition, Flat, FlatMessage};
 use prost_reflect_types::{FieldDescriptorProto, MethodDescriptorProto};

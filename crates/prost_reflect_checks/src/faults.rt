@@ -11,16 +11,18 @@ ghost use Rattle.prost_reflect_resolving.specs.Resolved.{IsResolved};
 
 use crate::defaults::{has_bad_default, has_float_default};
 use crate::entries::has_bad_map_entry;
-use crate::fields::{
-    has_bad_label, has_bad_number, has_bad_oneof, has_empty_enum, has_missing_type,
-};
-use crate::indices::has_bad_index;
-use crate::names::{has_duplicate_name, has_missing_name, has_unknown_syntax};
+use crate::names::has_duplicate_name;
 use crate::numbers::has_duplicate_number;
-use crate::options::has_bad_options;
-use crate::ranges::{has_bad_range, has_outside_range};
+use crate::ranges::has_outside_range;
 use crate::types::{has_missing_dependency, has_unknown_type};
 use prost_reflect_base::Base;
+use prost_reflect_definition_checks::fields::{
+    has_bad_label, has_bad_number, has_bad_oneof, has_empty_enum, has_missing_type,
+};
+use prost_reflect_definition_checks::indices::has_bad_index;
+use prost_reflect_definition_checks::names::{has_missing_name, has_unknown_syntax};
+use prost_reflect_definition_checks::options::has_bad_options;
+use prost_reflect_definition_checks::ranges::has_bad_range;
 use prost_reflect_resolving::{Resolved, all_resolved};
 use prost_reflect_tables::{Flat, PoolError};
 use prost_reflect_types::FileDescriptorProto;

@@ -6,18 +6,16 @@
 //! pool what these name. What each fault is stands in the definitions of `prost_reflect_tables` (`specs/Checked`), and why the
 //! added definitions tell it in `prost_reflect_growth`.
 //!
-//! Begin with `faults`, the list of all checks in their order; `walk` has the walks over definitions of a sort that each check
-//! hands its test to, and the other modules hold the tests, by topic.
+//! Begin with `faults`, the list of all checks in their order. Those that look at the added definitions alone stand in
+//! `prost_reflect_definition_checks`, with the walks over definitions that each check hands its test to; here stand those that
+//! ask what texts mean, or the pool, by topic, and `walk`, with the walks over fields whose texts were looked up.
 #![tactic(auto)]
 
 mod defaults;
 mod entries;
 mod faults;
-mod fields;
-mod indices;
 mod names;
 mod numbers;
-mod options;
 mod ranges;
 mod types;
 mod walk;

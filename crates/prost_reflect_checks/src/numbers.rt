@@ -10,8 +10,8 @@ ghost use Rattle.prost_reflect_resolving.specs.Resolved.{resolved_row, IsResolve
 ghost use Rattle.prost_reflect_checks.specs.Numbers.{numbered_list};
 ghost use Rattle.prost_reflect_tables.specs.ResolvedFaults.{numbered_found};
 
-use crate::walk::any;
 use prost_reflect_base::Base;
+use prost_reflect_definition_checks::walk::any;
 use prost_reflect_resolving::{Resolved, ResolvedField};
 use prost_reflect_tables::{Definition, Flat, FlatMessage};
 use prost_reflect_types::FieldDescriptorProto;

@@ -11,9 +11,10 @@ ghost use Rattle.prost_reflect_resolving.specs.Resolved.{resolved_row, IsResolve
 ghost use Rattle.prost_reflect_checks.specs.Added.{added_unknown_type};
 ghost use Rattle.prost_reflect_tables.specs.ResolvedFaults.{unfound, type_unfound, extendee_unfound};
 
-use crate::fields::{is_code, is_message_type};
-use crate::walk::{any, any_file, any_method, any_resolved_extension, any_resolved_field};
+use crate::walk::{any_resolved_extension, any_resolved_field};
 use prost_reflect_base::Base;
+use prost_reflect_definition_checks::fields::{is_code, is_message_type};
+use prost_reflect_definition_checks::walk::{any, any_file, any_method};
 use prost_reflect_resolving::{Index, Resolved, ResolvedField, index_from, message_place};
 use prost_reflect_tables::{Definition, Flat, file_names};
 use prost_reflect_types::{FileDescriptorProto, MethodDescriptorProto};

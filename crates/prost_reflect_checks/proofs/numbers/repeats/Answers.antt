@@ -1,5 +1,5 @@
 use Rattle.prost_reflect_checks.proofs.Common.{ℕ, ℤ, length, refl, ap, same_numbered, numbered}
-use Rattle.prost_reflect_checks.proofs.Repeats.{alike, fewer}
+use Rattle.prost_reflect_definition_checks.proofs.Repeats.{alike, fewer}
 use Rattle.std.specs.Cmp.{IsEquivalence, both_tied, unsigned_ties}
 use Rattle.std.proofs.lemmas.Cmp.{and_equiv, int_cmp_total, int_eq_equiv, nat_cmp_total, nat_eq_equiv, on_equiv, on_total, then_total}
 use Rattle.std.proofs.lemmas.List.Filters.{dedup_is}
