@@ -14,5 +14,3 @@ mod pointers;
 pub mod shared_items;
 pub mod shared_list;
 pub mod shared_slice;
-#[cfg(test)]
-mod tests;

@@ -1,5 +1,5 @@
-//! Tests of the tables of files, of the checks and of linking, through their public calls. They stand in a crate of their own,
-//! so that the gate need not prove those a second time with them.
+//! Tests of shared lists, of the tables of files, of the checks and of linking, through their public calls. They stand in a crate
+//! of their own, so that the gate need not prove those a second time with them.
 #![tactic(auto)]
 
 #[cfg(test)]
@@ -8,5 +8,7 @@ mod defaults;
 mod faults;
 #[cfg(test)]
 mod refusals;
+#[cfg(test)]
+mod shared_lists;
 #[cfg(test)]
 mod tables;

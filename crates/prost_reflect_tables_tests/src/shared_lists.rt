@@ -1,6 +1,6 @@
-//! What the calls give, each once.
+//! Lists whose clones share what stands in them: what each call gives.
 
-use crate::shared_list::SharedList;
+use prost_reflect_shared::shared_list::SharedList;
 use std::test::Fail;
 
 /// The numbers below `count`, pushed one by one.
