@@ -7,11 +7,12 @@ ghost use Rattle.std.specs.List.{list_any};
 ghost use Rattle.std.specs.Str.{bytes_eq};
 ghost use Rattle.prost_reflect_base.specs.Below.{rows_below};
 ghost use Rattle.prost_reflect_growth.specs.ChecksGrow.{added_names_repeat};
-ghost use Rattle.prost_reflect_tables.specs.FlatViews.{file_list, message_row, enum_row, service_row, flat_rows, text_list};
+ghost use Rattle.prost_reflect_flat.specs.FlatViews.{file_list, message_row, enum_row, service_row, flat_rows, text_list};
 
 use crate::walk::{any, any_definition, any_enum, any_file, any_message, any_service};
 use prost_reflect_base::Base;
-use prost_reflect_tables::{Flat, FlatEnum, FlatMessage, FlatService, add_names, text_or_empty};
+use prost_reflect_flat::{Flat, FlatEnum, FlatMessage, FlatService, add_names};
+use prost_reflect_tables::text_or_empty;
 use prost_reflect_types::FileDescriptorProto;
 use std::alloc::{AllocError, Global};
 

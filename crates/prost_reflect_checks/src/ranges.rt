@@ -6,15 +6,16 @@ ghost use Rattle.std.specs.Prelude.{◌≡◌, IfOk, map, option_map, slice_get}
 ghost use Rattle.std.specs.List.{All, list_any};
 ghost use Rattle.std.specs.List.Sorted.{IsNonDecreasingBy};
 ghost use Rattle.prost_reflect_tables.specs.Faults.{range_bad, message_range_bad, enum_range_bad, bad_range, is_in_range, extension_outside};
-ghost use Rattle.prost_reflect_tables.specs.FlatViews.{message_row, enum_row, flat_rows};
+ghost use Rattle.prost_reflect_flat.specs.FlatViews.{message_row, enum_row, flat_rows};
 ghost use Rattle.prost_reflect_resolving.specs.Indexed.{all_rows};
 ghost use Rattle.prost_reflect_resolving.specs.Resolved.{resolved_row, IsResolved};
 ghost use Rattle.prost_reflect_tables.specs.ResolvedFaults.{found_outside};
 ghost use Rattle.prost_reflect_tables.specs.Spans.{is_in_span, span_of, reaching, ranges_of, AreSpansOf, AreSpansIn};
 
 use crate::walk::{any, any_enum, any_message, any_resolved_extension};
+use prost_reflect_flat::{Flat, FlatEnum, FlatMessage};
 use prost_reflect_resolving::{Resolved, ResolvedField};
-use prost_reflect_tables::{Flat, FlatEnum, FlatMessage, natural_or_zero};
+use prost_reflect_tables::natural_or_zero;
 use prost_reflect_types::ExtensionRange;
 use std::alloc::{AllocError, Global};
 

@@ -5,7 +5,7 @@ ghost use Rattle.std.specs.List.{list_any};
 ghost use Rattle.std.specs.BTreeMap.{get_by_text};
 ghost use Rattle.prost_reflect_base.specs.Below.{files_below};
 ghost use Rattle.prost_reflect_tables.specs.Faults.{any_field, is_code, is_message_type, name_place, file_names, message_names, dependency_missing, names_nothing, type_unknown, extendee_unknown, method_type_unknown};
-ghost use Rattle.prost_reflect_tables.specs.FlatViews.{definition_row, file_list, flat_rows};
+ghost use Rattle.prost_reflect_flat.specs.FlatViews.{definition_row, file_list, flat_rows};
 ghost use Rattle.prost_reflect_resolving.specs.Indexed.{all_rows, IsIndexFrom, IsIndex};
 ghost use Rattle.prost_reflect_resolving.specs.Resolved.{resolved_row, IsResolved};
 ghost use Rattle.prost_reflect_checks.specs.Added.{added_unknown_type};
@@ -14,8 +14,8 @@ ghost use Rattle.prost_reflect_tables.specs.ResolvedFaults.{unfound, type_unfoun
 use crate::fields::{is_code, is_message_type};
 use crate::walk::{any, any_file, any_method, any_resolved_extension, any_resolved_field};
 use prost_reflect_base::Base;
+use prost_reflect_flat::{Definition, Flat, file_names};
 use prost_reflect_resolving::{Index, Resolved, ResolvedField, index_from, message_place};
-use prost_reflect_tables::{Definition, Flat, file_names};
 use prost_reflect_types::{FileDescriptorProto, MethodDescriptorProto};
 use std::alloc::{AllocError, Global};
 use std::collections::BTreeMap;

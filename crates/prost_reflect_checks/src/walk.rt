@@ -7,15 +7,15 @@ ghost use Rattle.prost_reflect_types.specs.declared.FileDescriptorProto.{FileDes
 ghost use Rattle.prost_reflect_types.specs.declared.MethodDescriptorProto.{MethodDescriptorProto};
 ghost use Rattle.prost_reflect_tables.specs.Faults.{any_field};
 ghost use Rattle.prost_reflect_tables.specs.Flat.{DefinitionRow, FlatMessageRow, FlatEnumRow, FlatServiceRow};
-ghost use Rattle.prost_reflect_tables.specs.FlatViews.{definition_row, file_list, message_row, enum_row, service_row, flat_rows};
+ghost use Rattle.prost_reflect_flat.specs.FlatViews.{definition_row, file_list, message_row, enum_row, service_row, flat_rows};
 ghost use Rattle.prost_reflect_tables.specs.Linking.{links_of};
 ghost use Rattle.prost_reflect_tables.specs.Resolved.{ResolvedRow, resolve};
 ghost use Rattle.prost_reflect_resolving.specs.Indexed.{all_rows};
 ghost use Rattle.prost_reflect_resolving.specs.Resolved.{resolved_row, resolved_lists, IsResolved};
 ghost use Rattle.prost_reflect_tables.specs.Walks.{Computes};
 
+use prost_reflect_flat::{Definition, Flat, FlatEnum, FlatMessage, FlatService};
 use prost_reflect_resolving::{Resolved, ResolvedField};
-use prost_reflect_tables::{Definition, Flat, FlatEnum, FlatMessage, FlatService};
 use prost_reflect_types::{FieldDescriptorProto, FileDescriptorProto, MethodDescriptorProto};
 
 /// Whether one of the items passes the test.
