@@ -4,7 +4,7 @@ ghost use Rattle.std.specs.Prelude.{◌≡◌, ◌++◌, ◌∷◌, [], List, no
 ghost use Rattle.prost_reflect_types.specs.DescriptorViews.{shared_files};
 ghost use Rattle.prost_reflect_types.specs.declared.FileDescriptorProto.{FileDescriptorProto};
 ghost use Rattle.prost_reflect_tables.specs.Adding.{is_there, added, AreNamesOf};
-ghost use Rattle.prost_reflect_tables.specs.FlatViews.{file_list};
+ghost use Rattle.prost_reflect_flat.specs.FlatViews.{file_list};
 ghost use Rattle.prost_reflect_tables.specs.declared.error.PoolError.TheVariants as pool_errors;
 ghost use Rattle.prost_reflect_pool.specs.FileNames.{names_differ};
 ghost use Rattle.prost_reflect_pool.specs.Pools.{files_of, IsPoolOf, RefusesFiles};

@@ -5,7 +5,7 @@ ghost use Rattle.prost_reflect_pool.specs.Pools.{files_of};
 ghost use Rattle.prost_reflect_tables.specs.Built.{AreTablesOf};
 ghost use Rattle.prost_reflect_tables.specs.Checked.{Stands};
 ghost use Rattle.prost_reflect_tables.specs.Flat.{flattened};
-ghost use Rattle.prost_reflect_tables.specs.FlatViews.{file_list};
+ghost use Rattle.prost_reflect_flat.specs.FlatViews.{file_list};
 ghost use Rattle.prost_reflect_tables.specs.InRange.{in_range};
 ghost use Rattle.prost_reflect_tables.specs.LinkedCatalog.{IsCatalogOf};
 ghost use Rattle.prost_reflect_tables.specs.Schema.{rows_of};
@@ -13,10 +13,11 @@ ghost use Rattle.prost_reflect_tables.specs.declared.error.PoolError.TheVariants
 
 use prost_reflect_base::Base;
 use prost_reflect_checks::check_added;
+use prost_reflect_flat::flattened;
 use prost_reflect_linking::{linked, linked_catalog, meanings, meanings_by_message, outlined};
 use prost_reflect_pool::LinkedPool;
 use prost_reflect_resolving::Resolved;
-use prost_reflect_tables::{Catalog, PoolError, Tables, flattened};
+use prost_reflect_tables::{Catalog, PoolError, Tables};
 use prost_reflect_types::FileDescriptorProto;
 use std::alloc::Global;
 

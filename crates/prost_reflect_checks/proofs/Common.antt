@@ -3,7 +3,7 @@ pub use Rattle.std.specs.List.{list_any}
 pub use Rattle.std.proofs.Common.{rules, List, map, ap, sym, ◌∙◌, drop, ℕ, false, [], ℤ, Some, append_assoc, length, subst, refl, Bool, Vec, Global}
 pub use Rattle.prost_reflect_tables.specs.EntryFaults.{is_entry, entry_bad, is_of_entry, method_of_entry, wrongly_of_entry}
 pub use Rattle.prost_reflect_tables.specs.Faults.{Numbered, number_or_zero, numbered_at, numbered_fields, numbered_in, same_numbered, extension_outside, extendee_unknown, method_type_unknown, type_unknown}
-pub use Rattle.prost_reflect_tables.specs.FlatViews.{flat_rows, message_row, file_list, definition_row}
+pub use Rattle.prost_reflect_flat.specs.FlatViews.{flat_rows, message_row, file_list, definition_row}
 pub use Rattle.prost_reflect_tables.specs.Linking.{links_of}
 pub use Rattle.prost_reflect_tables.specs.Resolved.{ResolvedRow}
 pub use Rattle.prost_reflect_tables.specs.ResolvedFaults.{bad_read, bad_float, found_of_entry, wrongly_found, numbered_found, found_outside, extendee_unfound, type_unfound}

@@ -1,7 +1,7 @@
 //! The checks of the defaults that fields write as text: where one may stand, and whether it gives a value.
 
 ghost use Rattle.std.specs.Prelude.{◌≡◌};
-ghost use Rattle.prost_reflect_tables.specs.FlatViews.{flat_rows};
+ghost use Rattle.prost_reflect_flat.specs.FlatViews.{flat_rows};
 ghost use Rattle.prost_reflect_tables.specs.DefaultFaults.{is_float_type};
 ghost use Rattle.prost_reflect_resolving.specs.Indexed.{all_rows};
 ghost use Rattle.prost_reflect_resolving.specs.Resolved.{resolved_row, IsResolved};
@@ -10,8 +10,8 @@ ghost use Rattle.prost_reflect_tables.specs.ResolvedFaults.{misplaced, unread, b
 
 use crate::walk::{any_resolved_extension, any_resolved_field};
 use prost_reflect_definition_checks::fields::{is_code, is_message_type};
+use prost_reflect_flat::Flat;
 use prost_reflect_resolving::{Resolved, ResolvedField};
-use prost_reflect_tables::Flat;
 
 /// Whether a default stands at a list, at a message or in a proto3 file.
 fn is_default_misplaced(field: &ResolvedField) -> bool

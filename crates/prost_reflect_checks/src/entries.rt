@@ -3,7 +3,7 @@
 ghost use Rattle.std.specs.Prelude.{◌≡◌, map, slice_get};
 ghost use Rattle.std.specs.List.{list_any};
 ghost use Rattle.prost_reflect_tables.specs.EntryFaults.{is_entry, is_key_type, is_plain, is_entry_key, is_entry_value, is_key_and_value, entry_bad, is_entry_message, names_entry, is_of_entry, wrongly_of_entry, method_of_entry};
-ghost use Rattle.prost_reflect_tables.specs.FlatViews.{definition_row, message_row, flat_rows};
+ghost use Rattle.prost_reflect_flat.specs.FlatViews.{definition_row, message_row, flat_rows};
 ghost use Rattle.prost_reflect_resolving.specs.Indexed.{all_rows};
 ghost use Rattle.prost_reflect_resolving.specs.Resolved.{resolved_row, IsResolved};
 ghost use Rattle.prost_reflect_checks.specs.Added.{added_map_entry};
@@ -12,8 +12,8 @@ ghost use Rattle.prost_reflect_tables.specs.ResolvedFaults.{flat_message_at, fou
 use crate::walk::{any_resolved_extension, any_resolved_field};
 use prost_reflect_definition_checks::fields::{is_code, is_message_type, is_type};
 use prost_reflect_definition_checks::walk::any_method;
+use prost_reflect_flat::{Definition, Flat, FlatMessage};
 use prost_reflect_resolving::{Resolved, ResolvedField, message_place};
-use prost_reflect_tables::{Definition, Flat, FlatMessage};
 use prost_reflect_types::{FieldDescriptorProto, MethodDescriptorProto};
 
 // KEYS AND VALUES

@@ -6,7 +6,7 @@ ghost use Rattle.prost_reflect_tables.specs.declared.error.PoolError.TheVariants
 ghost use Rattle.prost_reflect_base.specs.Below.{files_below, rows_below};
 ghost use Rattle.prost_reflect_growth.specs.ChecksGrow.{added_fault};
 ghost use Rattle.prost_reflect_tables.specs.declared.error.PoolError.{PoolError};
-ghost use Rattle.prost_reflect_tables.specs.FlatViews.{file_list, flat_rows};
+ghost use Rattle.prost_reflect_flat.specs.FlatViews.{file_list, flat_rows};
 ghost use Rattle.prost_reflect_resolving.specs.Resolved.{IsResolved};
 
 use crate::defaults::{has_bad_default, has_float_default};
@@ -23,8 +23,9 @@ use prost_reflect_definition_checks::indices::has_bad_index;
 use prost_reflect_definition_checks::names::{has_missing_name, has_unknown_syntax};
 use prost_reflect_definition_checks::options::has_bad_options;
 use prost_reflect_definition_checks::ranges::has_bad_range;
+use prost_reflect_flat::Flat;
 use prost_reflect_resolving::{Resolved, all_resolved};
-use prost_reflect_tables::{Flat, PoolError};
+use prost_reflect_tables::PoolError;
 use prost_reflect_types::FileDescriptorProto;
 use std::alloc::{AllocError, Global};
 

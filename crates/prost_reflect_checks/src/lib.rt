@@ -1,6 +1,6 @@
 //! The checks of files that are added to a pool: each fault that files may have has a name, and a test that looks for it.
 //!
-//! `check_added` takes the added definitions in flat lists, as `prost_reflect_tables` makes them, and the pool that is there, and
+//! `check_added` takes the added definitions in flat lists, as `prost_reflect_flat` makes them, and the pool that is there, and
 //! promises: it hands on each added field with what its texts mean exactly where pool and added files together have none of the
 //! eighteen faults, and else names one that they have, or is out of memory. It looks at the added definitions alone, and asks the
 //! pool what these name. What each fault is stands in the definitions of `prost_reflect_tables` (`specs/Checked`), and why the

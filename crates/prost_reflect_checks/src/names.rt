@@ -6,12 +6,12 @@ ghost use Rattle.std.specs.Str.{bytes_eq};
 ghost use Rattle.prost_reflect_tables.specs.Faults.{full_names};
 ghost use Rattle.prost_reflect_base.specs.Below.{rows_below};
 ghost use Rattle.prost_reflect_growth.specs.ChecksGrow.{added_names_repeat};
-ghost use Rattle.prost_reflect_tables.specs.FlatViews.{flat_rows, text_list};
+ghost use Rattle.prost_reflect_flat.specs.FlatViews.{flat_rows, text_list};
 
 use prost_reflect_base::Base;
 use prost_reflect_definition_checks::names::{full_names, repeats};
 use prost_reflect_definition_checks::walk::any;
-use prost_reflect_tables::Flat;
+use prost_reflect_flat::Flat;
 use std::alloc::{AllocError, Global};
 
 /// Whether a definition of the pool has one of the names.

@@ -5,15 +5,15 @@ ghost use Rattle.std.specs.List.{list_any};
 ghost use Rattle.prost_reflect_base.specs.Below.{rows_below};
 ghost use Rattle.prost_reflect_growth.specs.ChecksGrow.{added_numbers_repeat};
 ghost use Rattle.prost_reflect_tables.specs.Faults.{numbered_fields, numbered_in, all_numbered, same_numbered, number_repeats};
-ghost use Rattle.prost_reflect_tables.specs.FlatViews.{definition_row, message_row, flat_rows};
+ghost use Rattle.prost_reflect_flat.specs.FlatViews.{definition_row, message_row, flat_rows};
 ghost use Rattle.prost_reflect_resolving.specs.Resolved.{resolved_row, IsResolved};
 ghost use Rattle.prost_reflect_checks.specs.Numbers.{numbered_list};
 ghost use Rattle.prost_reflect_tables.specs.ResolvedFaults.{numbered_found};
 
 use prost_reflect_base::Base;
 use prost_reflect_definition_checks::walk::any;
+use prost_reflect_flat::{Definition, Flat, FlatMessage};
 use prost_reflect_resolving::{Resolved, ResolvedField};
-use prost_reflect_tables::{Definition, Flat, FlatMessage};
 use prost_reflect_types::FieldDescriptorProto;
 use std::alloc::{AllocError, Global};
 

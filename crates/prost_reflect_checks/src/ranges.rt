@@ -5,7 +5,7 @@
 ghost use Rattle.std.specs.Prelude.{◌≡◌, IfOk, option_map, slice_get};
 ghost use Rattle.std.specs.List.{list_any};
 ghost use Rattle.prost_reflect_tables.specs.Faults.{extension_outside};
-ghost use Rattle.prost_reflect_tables.specs.FlatViews.{flat_rows};
+ghost use Rattle.prost_reflect_flat.specs.FlatViews.{flat_rows};
 ghost use Rattle.prost_reflect_resolving.specs.Indexed.{all_rows};
 ghost use Rattle.prost_reflect_resolving.specs.Resolved.{resolved_row, IsResolved};
 ghost use Rattle.prost_reflect_tables.specs.ResolvedFaults.{found_outside};
@@ -13,8 +13,8 @@ ghost use Rattle.prost_reflect_tables.specs.Spans.{ranges_of, AreSpansIn};
 
 use crate::walk::any_resolved_extension;
 use prost_reflect_definition_checks::ranges::{is_covered_at, spans_of};
+use prost_reflect_flat::Flat;
 use prost_reflect_resolving::{Resolved, ResolvedField};
-use prost_reflect_tables::Flat;
 use prost_reflect_types::ExtensionRange;
 use std::alloc::{AllocError, Global};
 

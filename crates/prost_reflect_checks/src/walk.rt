@@ -4,7 +4,7 @@ ghost use Rattle.std.specs.Prelude.{◌≡◌, Bool, map};
 ghost use Rattle.std.specs.List.{list_any};
 ghost use Rattle.prost_reflect_types.specs.declared.FieldDescriptorProto.{FieldDescriptorProto};
 ghost use Rattle.prost_reflect_tables.specs.Flat.{DefinitionRow};
-ghost use Rattle.prost_reflect_tables.specs.FlatViews.{flat_rows};
+ghost use Rattle.prost_reflect_flat.specs.FlatViews.{flat_rows};
 ghost use Rattle.prost_reflect_tables.specs.Linking.{links_of};
 ghost use Rattle.prost_reflect_tables.specs.Resolved.{ResolvedRow, resolve};
 ghost use Rattle.prost_reflect_resolving.specs.Indexed.{all_rows};
@@ -12,8 +12,8 @@ ghost use Rattle.prost_reflect_resolving.specs.Resolved.{resolved_row, resolved_
 ghost use Rattle.prost_reflect_tables.specs.Walks.{Computes};
 
 use prost_reflect_definition_checks::walk::any;
+use prost_reflect_flat::Flat;
 use prost_reflect_resolving::{Resolved, ResolvedField};
-use prost_reflect_tables::Flat;
 
 fn any_resolved<'f, F: Fn(&ResolvedField<'f>) -> bool>(
     fields: &[ResolvedField<'f>],

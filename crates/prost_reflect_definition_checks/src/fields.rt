@@ -3,10 +3,10 @@
 ghost use Rattle.std.specs.Prelude.{◌≡◌, ◌≤ℤ◌, pos, nat_abs};
 ghost use Rattle.std.specs.List.{list_any};
 ghost use Rattle.prost_reflect_tables.specs.Faults.{number_or_zero, number_bad, bad_number, is_type, is_code, is_message_type, type_missing, extendee_missing, method_type_missing, missing_type, label_bad, bad_label, is_member, repeated_member, bad_oneof, enum_empty, empty_enum};
-ghost use Rattle.prost_reflect_tables.specs.FlatViews.{definition_row, enum_row, flat_rows};
+ghost use Rattle.prost_reflect_flat.specs.FlatViews.{definition_row, enum_row, flat_rows};
 
 use crate::walk::{any_definition, any_enum, any_field, any_method};
-use prost_reflect_tables::{Definition, Flat, FlatEnum};
+use prost_reflect_flat::{Definition, Flat, FlatEnum};
 use prost_reflect_types::{FieldDescriptorProto, MethodDescriptorProto};
 
 // NUMBERS

@@ -2,10 +2,10 @@
 
 ghost use Rattle.std.specs.Prelude.{◌≡◌};
 ghost use Rattle.prost_reflect_tables.specs.Faults.{is_outside, import_outside, oneof_outside, has_oneof_outside, bad_index};
-ghost use Rattle.prost_reflect_tables.specs.FlatViews.{file_list, message_row, flat_rows};
+ghost use Rattle.prost_reflect_flat.specs.FlatViews.{file_list, message_row, flat_rows};
 
 use crate::walk::{any, any_definition, any_file, any_message};
-use prost_reflect_tables::{Flat, FlatMessage};
+use prost_reflect_flat::{Flat, FlatMessage};
 use prost_reflect_types::FileDescriptorProto;
 
 fn is_outside(count: usize, index: i32) -> bool

@@ -3,10 +3,11 @@
 
 ghost use Rattle.std.specs.Prelude.{◌≡◌, [], ◌++◌, IfOk, OnOk, map};
 ghost use Rattle.prost_reflect_tables.specs.Faults.{is_unnamed, message_unnamed, enum_unnamed, service_unnamed, missing_name, syntax_unknown, unknown_syntax, names_in_messages, names_in_enums, names_in_services, full_names, repeats};
-ghost use Rattle.prost_reflect_tables.specs.FlatViews.{file_list, message_row, enum_row, service_row, flat_rows, text_list};
+ghost use Rattle.prost_reflect_flat.specs.FlatViews.{file_list, message_row, enum_row, service_row, flat_rows, text_list};
 
 use crate::walk::{any_definition, any_enum, any_file, any_message, any_service};
-use prost_reflect_tables::{Flat, FlatEnum, FlatMessage, FlatService, add_names, text_or_empty};
+use prost_reflect_flat::{Flat, FlatEnum, FlatMessage, FlatService, add_names};
+use prost_reflect_tables::text_or_empty;
 use prost_reflect_types::FileDescriptorProto;
 use std::alloc::{AllocError, Global};
 

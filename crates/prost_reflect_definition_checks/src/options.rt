@@ -2,11 +2,11 @@
 
 ghost use Rattle.std.specs.Prelude.{◌≡◌};
 ghost use Rattle.prost_reflect_wire.specs.Record.{Payload, record_at, payload_wire};
-ghost use Rattle.prost_reflect_tables.specs.FlatViews.{flat_rows};
+ghost use Rattle.prost_reflect_flat.specs.FlatViews.{flat_rows};
 ghost use Rattle.prost_reflect_tables.specs.OptionFaults.{suits_option, bytes_suit_option, option_bad, bad_options};
 
 use crate::walk::{any_field, any_message};
-use prost_reflect_tables::Flat;
+use prost_reflect_flat::Flat;
 use prost_reflect_wire::{RECURSION_LIMIT, WireType, decode_key, skip_value};
 
 /// Whether a record is a varint, if it is of the number.

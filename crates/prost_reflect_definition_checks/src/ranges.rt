@@ -4,11 +4,12 @@ ghost use Rattle.std.specs.Prelude.{◌≡◌, IfOk, map};
 ghost use Rattle.std.specs.List.{All, list_any};
 ghost use Rattle.std.specs.List.Sorted.{IsNonDecreasingBy};
 ghost use Rattle.prost_reflect_tables.specs.Faults.{range_bad, message_range_bad, enum_range_bad, bad_range, is_in_range};
-ghost use Rattle.prost_reflect_tables.specs.FlatViews.{message_row, enum_row, flat_rows};
+ghost use Rattle.prost_reflect_flat.specs.FlatViews.{message_row, enum_row, flat_rows};
 ghost use Rattle.prost_reflect_tables.specs.Spans.{is_in_span, span_of, reaching, AreSpansOf};
 
 use crate::walk::{any, any_enum, any_message};
-use prost_reflect_tables::{Flat, FlatEnum, FlatMessage, natural_or_zero};
+use prost_reflect_flat::{Flat, FlatEnum, FlatMessage};
+use prost_reflect_tables::natural_or_zero;
 use prost_reflect_types::ExtensionRange;
 use std::alloc::{AllocError, Global};
 

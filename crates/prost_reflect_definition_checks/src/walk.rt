@@ -7,10 +7,10 @@ ghost use Rattle.prost_reflect_types.specs.declared.FileDescriptorProto.{FileDes
 ghost use Rattle.prost_reflect_types.specs.declared.MethodDescriptorProto.{MethodDescriptorProto};
 ghost use Rattle.prost_reflect_tables.specs.Faults.{any_field};
 ghost use Rattle.prost_reflect_tables.specs.Flat.{DefinitionRow, FlatMessageRow, FlatEnumRow, FlatServiceRow};
-ghost use Rattle.prost_reflect_tables.specs.FlatViews.{definition_row, file_list, message_row, enum_row, service_row, flat_rows};
+ghost use Rattle.prost_reflect_flat.specs.FlatViews.{definition_row, file_list, message_row, enum_row, service_row, flat_rows};
 ghost use Rattle.prost_reflect_tables.specs.Walks.{Computes};
 
-use prost_reflect_tables::{Definition, Flat, FlatEnum, FlatMessage, FlatService};
+use prost_reflect_flat::{Definition, Flat, FlatEnum, FlatMessage, FlatService};
 use prost_reflect_types::{FieldDescriptorProto, FileDescriptorProto, MethodDescriptorProto};
 
 /// Whether one of the items passes the test.

@@ -2,7 +2,7 @@
 use Rattle.std.specs.Prelude.{◌≡◌, ◌<◌, ◌≤◌, ◌∷◌}
 use Rattle.prost_reflect_dynamic.proofs.Common.{ℕ, max, Bool, true, List, [], length, refl, ap, sym, subst, ◌∙◌, arith, list_all, BTreeSet, and_from, WireType, Payload, Record, record_at, Spells, body_of, raw_levels, payload_wire, payload_levels, KeyFront, ValueFront, FieldFront, Schema, LEVEL_LIMIT, allows, items_body, record_parts, first_parts, levels_first, field_front, field_once, key_shorter, payload_no_longer, greatest_level, has, BeginsWith, HasNumbersOf}
 use Rattle.prost_reflect_laws.proofs.Older.{allowed_levels, items_level}
-use Rattle.prost_reflect_tables.proofs.OptionBytes.{whole_front, front_whole}
+use Rattle.prost_reflect_flat.proofs.OptionBytes.{whole_front, front_whole}
 
 -- What is left of the records of the bytes spells the rest, and the numbers of the others are in the set.
 pub record Left (rest : List ℕ) (numbers : BTreeSet ℕ) (rs : List Record) : Type 0 where

@@ -1,7 +1,7 @@
 -- Flat lists grow at the end.
 use Rattle.std.specs.Prelude.{◌≡◌, ◌+◌, ◌∷◌, ◌++◌}
 use Rattle.prost_reflect_growth.proofs.Common.{ℕ, List, [], length, refl, sym, ap, ◌∙◌, arith, length-append, add-zero, zero-add, FileDescriptorProto, file_at, behind, files_from, flattened}
-use Rattle.prost_reflect_tables.proofs.Flattening.{behind_behind}
+use Rattle.prost_reflect_tables.proofs.Behind.{behind_behind}
 use Rattle.prost_reflect_growth.specs.Growth.{FlatGrows}
 
 grown_from : (old new : List FileDescriptorProto) (i n : ℕ) →

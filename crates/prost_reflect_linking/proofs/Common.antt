@@ -6,7 +6,7 @@ pub use Rattle.std.proofs.lemmas.List.Sorted.{IsPartitionPoint-from_clause, IsPa
 pub use Rattle.prost_reflect_tables.specs.CatalogRows.{extension_table_row, file_table_row, enum_lists_row, message_lists_row, method_table_row, service_table_row}
 pub use Rattle.prost_reflect_tables.specs.Faults.{file_names, names_of}
 pub use Rattle.prost_reflect_tables.specs.Flat.{FlatMessageRow, FlatEnumRow, FlatServiceRow, DefinitionRow}
-pub use Rattle.prost_reflect_tables.specs.FlatViews.{flat_rows, message_row, service_row, text_list, file_list, enum_row, definition_row}
+pub use Rattle.prost_reflect_flat.specs.FlatViews.{flat_rows, message_row, service_row, text_list, file_list, enum_row, definition_row}
 pub use Rattle.prost_reflect_tables.specs.Gathered.{places_from, all_places, pairs_at, pairs_from, all_pairs}
 pub use Rattle.prost_reflect_tables.specs.Indexing.{with_item, list_rows, grouped, empty_lists}
 pub use Rattle.prost_reflect_tables.specs.LinkedCatalog.{each_from, linked_lists, linked_extension, file_place, top_file, import_at, field_names, json_names, enum_lists, own_fields, value_names, linked_method, linked_service}
@@ -16,7 +16,8 @@ pub use Rattle.prost_reflect_tables.specs.Resolved.{ResolvedRow}
 pub use Rattle.prost_reflect_tables.specs.Rows.{TableRows, FieldRow, field_row, oneof_row, EnumValueRow, enum_value_row}
 pub use Rattle.prost_reflect_tables.proofs.CatalogParts.{same_catalog, same_sorted, same_file, same_lists}
 pub use Rattle.prost_reflect_tables.proofs.Gathering.{behind, all_shown}
-pub use Rattle.prost_reflect_tables.proofs.Grouping.{more_grouped, all_grouped, item_pushed, item_outside, item_none, groups_length, group_of, oneof_more, same_oneof, smaller_count}
+pub use Rattle.prost_reflect_tables.proofs.Grouping.{more_grouped, all_grouped, item_pushed, item_outside, item_none, groups_length, group_of, same_oneof, smaller_count}
+pub use Rattle.prost_reflect_flat.proofs.Oneofs.{oneof_more}
 pub use Rattle.prost_reflect_tables.proofs.Pushing.{made_more, front_left, rows_more}
 pub use Rattle.prost_reflect_tables.proofs.TextsAt.{text_there, no_text, texts_there, no_texts}
 pub use Rattle.prost_reflect_resolving.specs.Indexed.{all_rows}

@@ -11,7 +11,7 @@ ghost use Rattle.prost_reflect_resolving.specs.Resolved.{resolved_row};
 ghost use Rattle.prost_reflect_tables.specs.CatalogRows.{sorted_row, catalog_row};
 ghost use Rattle.prost_reflect_tables.specs.Faults.{names_of};
 ghost use Rattle.prost_reflect_tables.specs.Flat.{FlatRows};
-ghost use Rattle.prost_reflect_tables.specs.FlatViews.{definition_row, file_list, flat_rows, service_row, text_list};
+ghost use Rattle.prost_reflect_flat.specs.FlatViews.{definition_row, file_list, flat_rows, service_row, text_list};
 ghost use Rattle.prost_reflect_tables.specs.Linking.{links_of};
 ghost use Rattle.prost_reflect_tables.specs.Resolved.{resolve};
 ghost use Rattle.prost_reflect_tables.specs.Schema.{rows_of};
@@ -23,12 +23,12 @@ use crate::merging::{Sort, merged_by_name};
 use crate::services::linked_services;
 use crate::values::merged_values;
 use prost_reflect_base::Base;
+use prost_reflect_flat::{
+    Definition, Flat, FlatService, add_names, enum_names, file_names, message_names,
+};
 use prost_reflect_resolving::{Index, ResolvedField};
 use prost_reflect_shared::shared_list::SharedList;
-use prost_reflect_tables::{
-    Catalog, Definition, EnumLists, FileTable, Flat, FlatService, ServiceTable, SortedPlaces,
-    Tables, add_names, enum_names, file_names, message_names,
-};
+use prost_reflect_tables::{Catalog, EnumLists, FileTable, ServiceTable, SortedPlaces, Tables};
 use prost_reflect_types::{FieldDescriptorProto, FileDescriptorProto};
 use std::alloc::{AllocError, Global};
 

@@ -7,17 +7,17 @@ ghost use Rattle.prost_reflect_linking.specs.GatheredLists.{AreTops, gathered_fr
 ghost use Rattle.prost_reflect_resolving.specs.Indexed.{IsIndexFrom};
 ghost use Rattle.prost_reflect_tables.specs.CatalogRows.{file_table_row};
 ghost use Rattle.prost_reflect_tables.specs.Faults.{file_names};
-ghost use Rattle.prost_reflect_tables.specs.FlatViews.{definition_row, file_list, flat_rows};
+ghost use Rattle.prost_reflect_flat.specs.FlatViews.{definition_row, file_list, flat_rows};
 ghost use Rattle.prost_reflect_tables.specs.LinkedCatalog.{each_from, top_file, file_place, import_at};
 
 use crate::gather::{gathered, list_at};
 use prost_reflect_base::Base;
+use prost_reflect_flat::{
+    Definition, Flat, FlatEnum, FlatMessage, FlatService, file_names, is_proto3,
+};
 use prost_reflect_resolving::index_from;
 use prost_reflect_shared::shared_list::SharedList;
-use prost_reflect_tables::{
-    Definition, FileTable, Flat, FlatEnum, FlatMessage, FlatService, file_names, is_proto3,
-    place_in,
-};
+use prost_reflect_tables::{FileTable, place_in};
 use prost_reflect_types::{FieldDescriptorProto, FileDescriptorProto};
 use std::alloc::{AllocError, Global};
 use std::collections::BTreeMap;

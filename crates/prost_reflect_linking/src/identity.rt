@@ -2,11 +2,12 @@
 
 ghost use Rattle.std.specs.Prelude.{◌≡◌, IfOk, string_bytes};
 ghost use Rattle.prost_reflect_tables.specs.Rows.{identity_row, json_name_of};
-ghost use Rattle.prost_reflect_tables.specs.FlatViews.{definition_row, lent_row};
+ghost use Rattle.prost_reflect_flat.specs.FlatViews.{definition_row, lent_row};
 ghost use Rattle.prost_reflect_tables.specs.Linking.{linked_identity, json_name};
 ghost use Rattle.prost_reflect_tables.specs.Names.{bracketed, text_or_empty};
 
-use prost_reflect_tables::{Definition, DefinitionNames, DefinitionRef, Identity, text_or_empty};
+use prost_reflect_flat::{Definition, DefinitionRef};
+use prost_reflect_tables::{DefinitionNames, Identity, text_or_empty};
 use prost_reflect_types::FieldDescriptorProto;
 use smallvec::SmallVec;
 use std::alloc::{AllocError, Global};

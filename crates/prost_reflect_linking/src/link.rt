@@ -6,8 +6,8 @@ ghost use Rattle.std.specs.List.Sorted.{IsNonDecreasingBy};
 ghost use Rattle.prost_reflect_wire.specs.Scalar.{in_i32};
 ghost use Rattle.prost_reflect_tables.specs.Rows.{boxed_scalar, written_scalar, identity_row, field_row, oneof_row, message_row, enum_value_row, enum_row, rows_from};
 ghost use Rattle.prost_reflect_tables.specs.declared.tables.FieldTable.{FieldTable};
-ghost use Rattle.prost_reflect_tables.specs.FlatViews.{definition_row, flat_rows};
-ghost use Rattle.prost_reflect_tables.specs.FlatViews as flat_views;
+ghost use Rattle.prost_reflect_flat.specs.FlatViews.{definition_row, flat_rows};
+ghost use Rattle.prost_reflect_flat.specs.FlatViews as flat_views;
 ghost use Rattle.prost_reflect_tables.specs.Linking.{natural_or_zero, place_in, is_message, is_packable, cardinality_of_label, linked_packed, linked_presence, linked_identity, linked_field, in_order, declared_fields, oneof_place, member_place, oneofs_from, linked_message, linked_value, linked_enum, links_of};
 ghost use Rattle.prost_reflect_tables.specs.EntryFaults.{is_entry};
 ghost use Rattle.prost_reflect_tables.specs.InRange.{enum_in_range, in_range};
@@ -24,12 +24,12 @@ use crate::grown::{grown_messages, listed_count};
 use crate::identity::{json_name, lent_identity, linked_identity};
 use crate::meaning::Meaning;
 use prost_reflect_base::Base;
+use prost_reflect_flat::{Definition, Flat, FlatEnum, FlatMessage, bool_option};
 use prost_reflect_growth::sort_by_number;
 use prost_reflect_shared::shared_list::SharedList;
 use prost_reflect_tables::{
-    Cardinality, Definition, EnumTable, EnumValueTable, FieldTable, Flat, FlatEnum, FlatMessage,
-    MessageTable, OneofTable, TableKind, WrittenDefault, bool_option, is_packable, natural_or_zero,
-    place_in,
+    Cardinality, EnumTable, EnumValueTable, FieldTable, MessageTable, OneofTable, TableKind,
+    WrittenDefault, is_packable, natural_or_zero, place_in,
 };
 use prost_reflect_types::{EnumValueDescriptorProto, FieldDescriptorProto, OneofDescriptorProto};
 use std::alloc::{AllocError, Global};

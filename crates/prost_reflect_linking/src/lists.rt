@@ -10,8 +10,8 @@ ghost use Rattle.prost_reflect_resolving.specs.Indexed.{all_rows};
 ghost use Rattle.prost_reflect_resolving.specs.Resolved.{resolved_row};
 ghost use Rattle.prost_reflect_tables.specs.CatalogRows.{message_lists_row, enum_lists_row};
 ghost use Rattle.prost_reflect_tables.specs.Flat.{FlatRows};
-ghost use Rattle.prost_reflect_tables.specs.FlatViews as flat_views;
-ghost use Rattle.prost_reflect_tables.specs.FlatViews.{definition_row, flat_rows, text_list};
+ghost use Rattle.prost_reflect_flat.specs.FlatViews as flat_views;
+ghost use Rattle.prost_reflect_flat.specs.FlatViews.{definition_row, flat_rows, text_list};
 ghost use Rattle.prost_reflect_tables.specs.LinkedCatalog.{each_from, field_names, json_names, own_fields, value_names, enum_lists};
 ghost use Rattle.prost_reflect_tables.specs.Linking.{links_of, extended_place, value_number};
 ghost use Rattle.prost_reflect_tables.specs.Orders.{by_text};
@@ -22,11 +22,11 @@ ghost use Rattle.prost_reflect_tables.specs.Schema.{rows_of};
 use crate::gather::{gathered, list_at};
 use crate::order::{ordered_numbers, ordered_texts, sort_by_text};
 use prost_reflect_base::Base;
+use prost_reflect_flat::{Definition, Flat, FlatEnum, FlatMessage};
 use prost_reflect_resolving::ResolvedField;
 use prost_reflect_shared::shared_list::SharedList;
 use prost_reflect_tables::{
-    Definition, EnumLists, FieldTable, Flat, FlatEnum, FlatMessage, MessageLists, MessageTable,
-    Tables, text_or_empty,
+    EnumLists, FieldTable, MessageLists, MessageTable, Tables, text_or_empty,
 };
 use prost_reflect_types::{EnumValueDescriptorProto, FieldDescriptorProto};
 use std::alloc::{AllocError, Global};

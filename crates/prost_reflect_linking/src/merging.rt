@@ -5,7 +5,7 @@ ghost use Rattle.std.specs.Ordering.{nat_cmp};
 ghost use Rattle.std.specs.Cmp.Lexicographic.{slice_cmp};
 ghost use Rattle.prost_reflect_growth.specs.Merging.{grown_order};
 ghost use Rattle.prost_reflect_linking.specs.Sorts.{names_below, order_below};
-ghost use Rattle.prost_reflect_tables.specs.FlatViews.{text_list};
+ghost use Rattle.prost_reflect_flat.specs.FlatViews.{text_list};
 ghost use Rattle.prost_reflect_tables.specs.Orders.{text_at, text_before};
 
 use crate::order::{ordered_texts, text_at};

@@ -3,7 +3,7 @@
 ghost use Rattle.std.specs.Prelude.{◌≡◌, IfOk, OnOk};
 ghost use Rattle.std.specs.Ordering.{nat_cmp, int_cmp};
 ghost use Rattle.std.specs.Cmp.Lexicographic.{slice_cmp};
-ghost use Rattle.prost_reflect_tables.specs.FlatViews.{text_list};
+ghost use Rattle.prost_reflect_flat.specs.FlatViews.{text_list};
 ghost use Rattle.prost_reflect_tables.specs.Gathered.{all_places};
 ghost use Rattle.prost_reflect_tables.specs.Orders.{text_at, by_text, number_at, by_number};
 

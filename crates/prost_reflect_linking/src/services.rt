@@ -3,15 +3,16 @@
 ghost use Rattle.std.specs.Prelude.{◌≡◌, ◌++◌, IfOk, map};
 ghost use Rattle.prost_reflect_base.specs.Below.{catalog_below};
 ghost use Rattle.prost_reflect_tables.specs.CatalogRows.{method_table_row, service_table_row};
-ghost use Rattle.prost_reflect_tables.specs.FlatViews.{definition_row, flat_rows, service_row};
+ghost use Rattle.prost_reflect_flat.specs.FlatViews.{definition_row, flat_rows, service_row};
 ghost use Rattle.prost_reflect_resolving.specs.Indexed.{all_rows, IsIndex};
 ghost use Rattle.prost_reflect_tables.specs.LinkedCatalog.{linked_method, linked_service};
 ghost use Rattle.prost_reflect_tables.specs.Linking.{links_of};
 
 use crate::identity::linked_identity;
+use prost_reflect_flat::{Definition, Flat, FlatService};
 use prost_reflect_resolving::{Index, message_place};
 use prost_reflect_shared::shared_list::SharedList;
-use prost_reflect_tables::{Definition, Flat, FlatService, MethodTable, ServiceTable};
+use prost_reflect_tables::{MethodTable, ServiceTable};
 use prost_reflect_types::MethodDescriptorProto;
 use std::alloc::{AllocError, Global};
 

@@ -8,15 +8,15 @@ ghost use Rattle.std.specs.Cmp.Lexicographic.{slice_cmp};
 ghost use Rattle.std.specs.List.{sum_by};
 ghost use Rattle.std.specs.Ordering.{nat_cmp};
 ghost use Rattle.prost_reflect_tables.specs.Faults.{names_of};
-ghost use Rattle.prost_reflect_tables.specs.FlatViews.{definition_row, enum_row, flat_rows};
+ghost use Rattle.prost_reflect_flat.specs.FlatViews.{definition_row, enum_row, flat_rows};
 ghost use Rattle.prost_reflect_tables.specs.Gathered.{pairs_at, all_pairs};
 ghost use Rattle.prost_reflect_tables.specs.LinkedCatalog.{value_places, value_full_name};
 ghost use Rattle.prost_reflect_tables.specs.Orders.{sorted_by, text_at, text_in, text_before};
 
 use prost_reflect_base::Base;
+use prost_reflect_flat::{Definition, Flat, FlatEnum};
 use prost_reflect_growth::merged;
 use prost_reflect_shared::shared_slice::SharedSlice;
-use prost_reflect_tables::{Definition, Flat, FlatEnum};
 use prost_reflect_types::EnumValueDescriptorProto;
 use std::alloc::{AllocError, Global};
 use std::cmp::Ordering;

@@ -8,7 +8,7 @@ pub use Rattle.prost_reflect_types.specs.declared.EnumValueDescriptorProto.{Enum
 pub use Rattle.prost_reflect_tables.specs.EntryFaults.{is_entry}
 pub use Rattle.prost_reflect_tables.specs.Faults.{name_place, place_named, message_names, enum_names}
 pub use Rattle.prost_reflect_tables.specs.Flat.{FlatRows, FlatMessageRow, FlatEnumRow, behind}
-pub use Rattle.prost_reflect_tables.specs.FlatViews.{message_row, definition_row, enum_row, text_list, flat_rows}
+pub use Rattle.prost_reflect_flat.specs.FlatViews.{message_row, definition_row, enum_row, text_list, flat_rows}
 pub use Rattle.prost_reflect_tables.specs.Linking.{links_of, linked_value}
 pub use Rattle.prost_reflect_tables.specs.Names.{text_or_empty, without_dot}
 unfoldable pub use Rattle.prost_reflect_tables.specs.Resolved.{resolve}

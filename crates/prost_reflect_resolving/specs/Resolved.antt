@@ -4,7 +4,7 @@ use Rattle.std.specs.declared.alloc.Global.{Global}
 use Rattle.prost_reflect_tables.specs.Rows.{written_scalar}
 use Rattle.prost_reflect_tables.specs.Flat.{FlatRows}
 use Rattle.prost_reflect_tables.specs.EntryFaults.{is_entry}
-use Rattle.prost_reflect_tables.specs.FlatViews.{lent_row}
+use Rattle.prost_reflect_flat.specs.FlatViews.{lent_row}
 use Rattle.prost_reflect_tables.specs.Linking.{links_of}
 use Rattle.prost_reflect_tables.specs.Resolved.{ResolvedRow, resolve}
 use Rattle.prost_reflect_resolving.specs.Indexed.{all_rows, IsIndex}

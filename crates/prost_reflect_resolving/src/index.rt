@@ -3,15 +3,14 @@
 ghost use Rattle.std.specs.Prelude.{◌≡◌, [], IfOk, map, slice_get, unwrap_or};
 ghost use Rattle.std.specs.BTreeMap.{get_by_text};
 ghost use Rattle.prost_reflect_tables.specs.Faults.{message_names, enum_names, place_named};
-ghost use Rattle.prost_reflect_tables.specs.FlatViews.{definition_row, enum_row, flat_rows, text_list};
+ghost use Rattle.prost_reflect_flat.specs.FlatViews.{definition_row, enum_row, flat_rows, text_list};
 ghost use Rattle.prost_reflect_tables.specs.WrittenDefaults.{number_named};
 ghost use Rattle.prost_reflect_tables.specs.Linking.{links_of, linked_value, values_of_kind};
 ghost use Rattle.prost_reflect_resolving.specs.Indexed.{all_rows, IsIndexFrom, IsNumbersOf, AreNumbersOf, IsIndex};
 
 use prost_reflect_base::Base;
-use prost_reflect_tables::{
-    Definition, Flat, FlatEnum, TableKind, enum_names, message_names, text_or_empty, without_dot,
-};
+use prost_reflect_flat::{Definition, Flat, FlatEnum, enum_names, message_names};
+use prost_reflect_tables::{TableKind, text_or_empty, without_dot};
 use prost_reflect_types::EnumValueDescriptorProto;
 use std::alloc::{AllocError, Global};
 use std::collections::BTreeMap;

@@ -2,7 +2,7 @@
 
 ghost use Rattle.std.specs.Prelude.{◌≡◌, IfOk, map, option_map};
 ghost use Rattle.prost_reflect_tables.specs.EntryFaults.{is_entry};
-ghost use Rattle.prost_reflect_tables.specs.FlatViews.{definition_row, message_row, flat_rows};
+ghost use Rattle.prost_reflect_flat.specs.FlatViews.{definition_row, message_row, flat_rows};
 ghost use Rattle.prost_reflect_tables.specs.Linking.{links_of, linked_default};
 ghost use Rattle.prost_reflect_tables.specs.Resolved.{resolve};
 ghost use Rattle.prost_reflect_tables.specs.Rows.{written_scalar};
@@ -11,10 +11,8 @@ ghost use Rattle.prost_reflect_resolving.specs.Resolved.{resolved_row, resolved_
 
 use crate::index::{Index, enum_place, indexed, message_place, number_named};
 use prost_reflect_base::Base;
-use prost_reflect_tables::{
-    Definition, DefinitionRef, Flat, FlatMessage, TableKind, WrittenDefault, is_entry, linked_kind,
-    written_default,
-};
+use prost_reflect_flat::{Definition, DefinitionRef, Flat, FlatMessage, is_entry, written_default};
+use prost_reflect_tables::{TableKind, WrittenDefault, linked_kind};
 use prost_reflect_types::FieldDescriptorProto;
 use std::alloc::{AllocError, Global};
 

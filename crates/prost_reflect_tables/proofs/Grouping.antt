@@ -1,9 +1,8 @@
 -- Lists of items, each list at its place.
 use Rattle.std.specs.Prelude.{◌≡◌, ◌+◌, ◌<◌, ◌≤◌, ◌∷◌, ◌++◌, ◌≢◌, ◌⊎◌}
-use Rattle.prost_reflect_tables.proofs.Common.{ℕ, zero, suc, Bool, true, false, cond, List, [], map, length, Option, Some, None, refl, sym, ap, ◌∙◌, arith, append_assoc, append-nil, get_or, drop, drop-cons, add-one, ⊎_elim, inl, inr, Vec, map-append, drop_all, length-map, filter, nat_lt, slice_set, eq-eqb, ne_eqb, is_place, belonging, messages_from, linked_oneof, oneof_place, oneofs_from, links_of, linked_enum, linked_rows, FieldTable, IdentityRow, FieldRow, OneofRow, MessageRow, EnumRow, identity_row, field_row, oneof_row, rows_from, FieldDescriptorProto, OneofDescriptorProto, MessageTable, EnumTable, definition_row, DefinitionRow, FlatRows, IsPartitionPoint, empty_lists, with_item, grouped}
+use Rattle.prost_reflect_tables.proofs.Common.{ℕ, zero, suc, Bool, true, false, cond, List, [], map, length, Option, Some, None, refl, sym, ap, ◌∙◌, arith, append_assoc, append-nil, get_or, drop, drop-cons, add-one, ⊎_elim, inl, inr, Vec, map-append, drop_all, length-map, filter, nat_lt, slice_set, eq-eqb, ne_eqb, is_place, belonging, messages_from, links_of, linked_enum, linked_rows, FieldTable, IdentityRow, FieldRow, MessageRow, EnumRow, identity_row, field_row, oneof_row, rows_from, MessageTable, EnumTable, FlatRows, IsPartitionPoint, empty_lists, with_item, grouped}
 use Rattle.std.proofs.Common.{Global}
 use Rattle.prost_reflect_tables.specs.Rows.{enum_row, message_row as table_row}
-use Rattle.prost_reflect_tables.specs.declared.build.flatten.Definition.{Definition}
 use Rattle.prost_reflect_tables.specs.declared.tables.OneofTable.{OneofTable}
 use Rattle.prost_reflect_tables.proofs.Orders.{same_head, same_tail}
 
@@ -144,18 +143,6 @@ smaller_count n k fields h point = count_at (λ (f : FieldTable). nat_lt f.numbe
 
 pub same_oneof : (t : OneofTable) (id : IdentityRow) (members : List ℕ) → identity_row t.id ≡ id → t.fields.items ≡ members → oneof_row t ≡ record { id = id; fields = members }
 same_oneof t id members n e = ap (λ (r : IdentityRow). record (oneof_row t) { id = r }) n ∙ ap (λ (l : List ℕ). record (oneof_row t) { id = id; fields = l }) e
-
-pub oneof_more : (fields : List FieldRow) (declared : List (DefinitionRow FieldDescriptorProto)) (tables : List OneofTable) (t : OneofTable) (ds : List (Definition OneofDescriptorProto)) (k : ℕ) (d : Definition OneofDescriptorProto) →
-    k < length ds → d ≡ get_or ds k d → oneof_row t ≡ linked_oneof fields (belonging oneof_place declared k) (definition_row d) →
-    map oneof_row (tables ++ t ∷ []) ++ oneofs_from fields declared (k + 1) (map definition_row (drop (k + 1) ds)) ≡ map oneof_row tables ++ oneofs_from fields declared k (map definition_row (drop k ds))
-oneof_more fields declared tables t ds k d h is e =
-    let front : drop k ds ≡ d ∷ drop (k + 1) ds = drop-cons ds k d h ∙ (ap (λ (x : Definition OneofDescriptorProto). x ∷ drop (suc k) ds) (sym is) ∙ ap (λ j. d ∷ drop j ds) (sym (add-one k))) in
-    let rest : List OneofRow = oneofs_from fields declared (k + 1) (map definition_row (drop (k + 1) ds)) in
-    ap (λ l. l ++ rest) (map-append oneof_row tables (t ∷ []))
-    ∙ (append_assoc (map oneof_row tables) (oneof_row t ∷ []) rest
-    ∙ (ap (λ (r : OneofRow). map oneof_row tables ++ r ∷ rest) e ∙ ap (λ (xs : List (Definition OneofDescriptorProto)). map oneof_row tables ++ oneofs_from fields declared k (map definition_row xs)) (sym front)))
-
--- MESSAGES
 
 -- ALL
 

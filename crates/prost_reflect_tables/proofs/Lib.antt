@@ -1,18 +1,13 @@
 mod Common
 pub mod Walks
 pub mod Resolving
-pub mod EntryFlags
 pub mod Ascending
 pub mod Keeping
 pub mod Fields
 mod Worked
-mod WholeNumbers
-mod WholeBits
-mod Escapes
 mod WorkedDefaults
 mod KindDefaults
-pub mod Flattening
-pub mod OptionBytes
+pub mod Behind
 pub mod Sorting
 pub mod Grouping
 pub mod Gathering

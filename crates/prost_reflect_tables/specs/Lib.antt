@@ -11,7 +11,6 @@ pub mod WrittenDefaults
 pub mod DefaultExamples
 pub mod Names
 pub mod Flat
-pub mod FlatViews
 pub mod Faults
 pub mod EntryFaults
 pub mod DefaultFaults

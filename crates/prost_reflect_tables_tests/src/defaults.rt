@@ -1,6 +1,7 @@
 //! Defaults as they are written in files, and what they are read as.
 
-use prost_reflect_tables::{TableKind, WrittenDefault, written_default};
+use prost_reflect_flat::written_default;
+use prost_reflect_tables::{TableKind, WrittenDefault};
 use std::alloc::{AllocError, Global};
 use std::test::Fail;
 

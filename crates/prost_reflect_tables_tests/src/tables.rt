@@ -1,11 +1,10 @@
 //! What files are flattened to, and the tables and the catalog that are linked of them.
 
 use prost_reflect_building::with_files;
+use prost_reflect_flat::{Flat, FlatMessage, flattened};
 use prost_reflect_pool::LinkedPool;
 use prost_reflect_samples::leaked;
-use prost_reflect_tables::{
-    Catalog, FieldTable, Flat, FlatMessage, Identity, MessageTable, Tables, flattened,
-};
+use prost_reflect_tables::{Catalog, FieldTable, Identity, MessageTable, Tables};
 use prost_reflect_types::{FileDescriptorProto, Proto};
 use std::alloc::{AllocError, Global};
 use std::test::Fail;

@@ -10,7 +10,8 @@ ghost use Rattle.protorelay_commands.specs.declared.refusal.Refusal.TheVariants 
 
 use crate::refusal::Refusal;
 use prost_reflect::{FieldDescriptor, Value};
-use prost_reflect_tables::{TableKind, WrittenDefault, written_default};
+use prost_reflect_flat::written_default;
+use prost_reflect_tables::{TableKind, WrittenDefault};
 use std::alloc::{AllocError, Global};
 
 /// The numbers that the text spells, each in decimal digits alone, joined by dots.

@@ -9,7 +9,8 @@ ghost use Rattle.prost_reflect_dynamic.specs.View.{value_of};
 
 use crate::descriptor::Kind;
 use crate::value::Value;
-use prost_reflect_tables::{WrittenDefault, written_default};
+use prost_reflect_flat::written_default;
+use prost_reflect_tables::WrittenDefault;
 use std::alloc::{AllocError, Global};
 
 impl Value {

@@ -9,7 +9,7 @@ use Rattle.prost_reflect_linking.specs.Meanings.{meant}
 use Rattle.prost_reflect_resolving.specs.Indexed.{all_rows}
 use Rattle.prost_reflect_tables.specs.Built.{AreTablesOf}
 use Rattle.prost_reflect_tables.specs.Checked.{Stands}
-use Rattle.prost_reflect_tables.specs.FlatViews.{file_list, flat_rows}
+use Rattle.prost_reflect_flat.specs.FlatViews.{file_list, flat_rows}
 use Rattle.prost_reflect_tables.specs.LinkedCatalog.{IsCatalogOf}
 use Rattle.prost_reflect_tables.specs.Resolved.{ResolvedRow, resolve}
 use Rattle.prost_reflect_building.proofs.building.link_behind.Goals as goal

@@ -1,6 +1,6 @@
 use Rattle.prost_reflect_checks.proofs.Common.{List, map, ap, sym, ◌∙◌, is_entry, message_row}
-use Rattle.prost_reflect_tables.specs.declared.build.flatten.FlatMessage.{FlatMessage}
-use Rattle.prost_reflect_tables.proofs.EntryFlags.{flag_at}
+use Rattle.prost_reflect_flat.specs.declared.flatten.FlatMessage.{FlatMessage}
+use Rattle.prost_reflect_flat.proofs.EntryFlags.{flag_at}
 use Rattle.prost_reflect_checks.proofs.entries.has_entry_bad.Goals as goal
 
 pub is_entry_bad-requires : goal.is_entry_bad-requires

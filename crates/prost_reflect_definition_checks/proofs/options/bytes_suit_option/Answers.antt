@@ -2,7 +2,7 @@ use Rattle.std.proofs.Common.{◌≡◌, true, false, length, nat_eq, sym, ap, �
 use Rattle.prost_reflect_wire.specs.Record.{record_at}
 use Rattle.prost_reflect_wire.proofs.PlaceFaults.{key_stands_in_field, value_stands_in_field}
 use Rattle.prost_reflect_tables.specs.OptionFaults.{suits_option}
-use Rattle.prost_reflect_tables.proofs.OptionBytes.{suit_passed, suit_refused, suit_none, suit_left, rest_small}
+use Rattle.prost_reflect_flat.proofs.OptionBytes.{suit_passed, suit_refused, suit_none, suit_left, rest_small}
 use Rattle.prost_reflect_definition_checks.proofs.options.bytes_suit_option.Goals as goal
 
 pub returns-in_default : goal.returns-in_default

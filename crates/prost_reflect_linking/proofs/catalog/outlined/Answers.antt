@@ -2,7 +2,7 @@ use Rattle.prost_reflect_linking.proofs.Common.{ap, ◌∙◌, map, rules, List,
 use Rattle.prost_reflect_base.specs.declared.Base.{Base}
 use Rattle.prost_reflect_base.specs.Below.{catalog_below}
 use Rattle.std.specs.Prelude.{◌++◌}
-use Rattle.prost_reflect_tables.specs.declared.build.flatten.FlatService.{FlatService}
+use Rattle.prost_reflect_flat.specs.declared.flatten.FlatService.{FlatService}
 use Rattle.prost_reflect_linking.specs.Outlines.{found_extended}
 use Rattle.prost_reflect_linking.proofs.Outlines.{extended_are}
 use Rattle.prost_reflect_linking.proofs.catalog.outlined.Goals as goal

@@ -2,7 +2,7 @@ use Rattle.std.specs.Prelude.{◌≡◌, ◌++◌}
 use Rattle.prost_reflect_linking.proofs.Common.{drop, map, true, linked_enum}
 use Rattle.std.specs.List.{list_all}
 use Rattle.prost_reflect_tables.specs.Rows.{enum_row}
-use Rattle.prost_reflect_tables.specs.FlatViews as flat_views
+use Rattle.prost_reflect_flat.specs.FlatViews as flat_views
 use Rattle.prost_reflect_tables.specs.InRange.{enum_in_range}
 use Rattle.prost_reflect_linking.proofs.link.linked_enums.Given as goal
 

@@ -5,13 +5,13 @@ use Rattle.prost_reflect_linking.proofs.Common.{false, List, Vec, Global, length
 use Rattle.prost_reflect_linking.proofs.Paired.{first_left, message_more}
 use Rattle.prost_reflect_linking.specs.Meanings.{all_meant, meaning_lists, meaning_row, messages_meant}
 use Rattle.prost_reflect_linking.specs.declared.meaning.Meaning.{Meaning}
-use Rattle.prost_reflect_tables.proofs.EntryFlags.{flag_at}
-use Rattle.prost_reflect_tables.specs.FlatViews as flat_views
+use Rattle.prost_reflect_flat.proofs.EntryFlags.{flag_at}
+use Rattle.prost_reflect_flat.specs.FlatViews as flat_views
 use Rattle.prost_reflect_tables.specs.Linking.{linked_message}
 use Rattle.prost_reflect_tables.specs.Rows as rows
 use Rattle.prost_reflect_tables.specs.Rows.{FieldRow}
-use Rattle.prost_reflect_tables.specs.declared.build.flatten.Definition.{Definition}
-use Rattle.prost_reflect_tables.specs.declared.build.flatten.FlatMessage.{FlatMessage}
+use Rattle.prost_reflect_flat.specs.declared.flatten.Definition.{Definition}
+use Rattle.prost_reflect_flat.specs.declared.flatten.FlatMessage.{FlatMessage}
 use Rattle.prost_reflect_tables.specs.declared.tables.FieldTable.{FieldTable}
 use Rattle.prost_reflect_types.specs.declared.FieldDescriptorProto.{FieldDescriptorProto}
 use Rattle.prost_reflect_linking.proofs.link.linked_messages.Goals as goal

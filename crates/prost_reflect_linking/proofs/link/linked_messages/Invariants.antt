@@ -2,7 +2,7 @@ use Rattle.std.specs.Prelude.{◌≡◌, ◌+◌, ◌++◌}
 use Rattle.prost_reflect_linking.proofs.Common.{drop, map, length, list_rows}
 use Rattle.prost_reflect_linking.specs.Meanings.{meaning_lists, messages_meant}
 use Rattle.prost_reflect_tables.specs.Rows as rows
-use Rattle.prost_reflect_tables.specs.FlatViews as flat_views
+use Rattle.prost_reflect_flat.specs.FlatViews as flat_views
 use Rattle.prost_reflect_linking.proofs.link.linked_messages.Given as goal
 
 abbrev pub invariant-loop-place : goal.invariant-loop-place

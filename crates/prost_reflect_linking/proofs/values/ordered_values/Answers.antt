@@ -1,5 +1,5 @@
 use Rattle.prost_reflect_linking.proofs.Common.{List, map, ap, ◌∙◌, FlatEnumRow, enum_row, names_of, all_pairs, sorted_by, text_in, text_before}
-use Rattle.prost_reflect_tables.specs.declared.build.flatten.FlatEnum.{FlatEnum}
+use Rattle.prost_reflect_flat.specs.declared.flatten.FlatEnum.{FlatEnum}
 use Rattle.prost_reflect_linking.proofs.values.ordered_values.Goals as goal
 
 pub returns : goal.returns
