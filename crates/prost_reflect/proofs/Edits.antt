@@ -15,7 +15,8 @@ use Rattle.prost_reflect_dynamic.specs.declared.descriptor.message.MessageDescri
 use Rattle.prost_reflect.specs.declared.relaying.edit.RelayWithError.TheVariants.{InvalidType, HoldsMessage, Encode}
 use Rattle.prost_reflect.specs.Edits.{value_refusal, edit_refusal, IsEdited, RefusesEdit, PassesEdit}
 use Rattle.prost_reflect_dynamic.specs.Named.{schema_named, type_named}
-use Rattle.prost_reflect_dynamic.specs.Paths.{PATH_LIMIT, field_at, IsSetAt}
+use Rattle.prost_reflect_rows.specs.Paths.{PATH_LIMIT, field_at}
+use Rattle.prost_reflect_dynamic.specs.Paths.{IsSetAt}
 use Rattle.prost_reflect.specs.Relaying.{IsReadBy}
 use Rattle.prost_reflect_dynamic.proofs.Paths.{stored_plain, path_to}
 use Rattle.prost_reflect_dynamic.proofs.ReadBack.{named_valid}

@@ -10,7 +10,7 @@ use Rattle.prost_reflect_wire.specs.Meaning.{decoded}
 use Rattle.prost_reflect_wire.specs.Typing.{value_valid}
 use Rattle.prost_reflect_wire.specs.Edit.{set_at, holds_message, edited}
 use Rattle.prost_reflect_wire.specs.Reduction.{Reduced}
-use Rattle.prost_reflect_dynamic.specs.Paths.{field_led}
+use Rattle.prost_reflect_rows.specs.Paths.{field_led}
 use Rattle.prost_reflect_dynamic.specs.ReadBack.{IsFaulty}
 use Rattle.prost_reflect.specs.declared.relaying.edit.RelayWithError.{RelayWithError}
 use Rattle.prost_reflect.specs.declared.relaying.edit.RelayWithError.TheVariants.{NotFound, InvalidType, HoldsMessage, Decode, Encode, OutOfMemory}

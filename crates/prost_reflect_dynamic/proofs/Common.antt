@@ -3,7 +3,7 @@ pub use Rattle.std.specs.BTreeMap.{BTreeMap, insert_entry, is_at}
 pub use Rattle.std.specs.BTreeSet.{BTreeSet}
 pub use Rattle.std.specs.Bool.{Decides, beq}
 pub use Rattle.std.specs.Cmp.{IsTotalOrder, nat_cmp_total, unsigned_Decides}
-pub use Rattle.std.specs.List.{AllByRecursion, list_all, list_any, position_from, position_or_len}
+pub use Rattle.std.specs.List.{AllByRecursion, list_all, list_any, position_from}
 unfoldable pub use Rattle.std.specs.List.Sorted.{IsStrictlySortedBy}
 pub use Rattle.std.specs.Map.{keys_of, lookup}
 pub use Rattle.std.specs.Option.{is_some, option_and_then, option_copied, option_copied_mut, option_map, option_to_list}
@@ -18,8 +18,8 @@ pub use Rattle.std.specs.declared.cmp.Ordering.{Ordering}
 pub use Rattle.std.specs.declared.cmp.Ordering.TheVariants.{Equal, Greater, Less}
 pub use Rattle.std.specs.declared.rc.Rc.{Rc}
 pub use Rattle.std.specs.declared.result.Result.TheVariants.{Err, Ok}
-pub use Rattle.std.proofs.Common.{Bool, Bor, IsTrue, List, None, Option, Some, [], ap, append-nil, append_assoc, ap₂, arith, cond, drop, false, filter, get_or, inl, inr, length, map, nat_eq, nat_le, nat_lt, not, of_z, pos, refl, rules, slice_index_or, string_bytes, subst, suc, sym, take, to_z, true, true≢false, unwrap_or, w32, zero, ℕ, ℤ, ◌∙◌}
-pub use Rattle.std.proofs.lemmas.Bool.{and_from, and_parts, eq-eqb, eqb-false, eqb-true, false_from_ne_true, le-ltb, lt-ltb, ltb-false, ltb-true, ne_eqb, or_parts}
+pub use Rattle.std.proofs.Common.{Bool, Bor, IsTrue, List, None, Option, Some, [], ap, append-nil, append_assoc, ap₂, arith, cond, drop, false, filter, get_or, inl, inr, length, map, nat_eq, nat_lt, not, of_z, pos, refl, rules, slice_index_or, string_bytes, subst, suc, sym, take, to_z, true, true≢false, unwrap_or, w32, zero, ℕ, ℤ, ◌∙◌}
+pub use Rattle.std.proofs.lemmas.Bool.{and_from, and_parts, eq-eqb, eqb-false, eqb-true, false_from_ne_true, lt-ltb, ltb-false, ltb-true, ne_eqb, or_parts}
 pub use Rattle.std.proofs.lemmas.Bool.Decides.{Decides-and, Decides-at, Decides-int_eq}
 pub use Rattle.std.proofs.lemmas.List.{drop_all, get_or-map, length-map, map-append, nil_from_length, take_more}
 pub use Rattle.std.proofs.lemmas.List.Elements.{All-cons, All-head, All-nil, All-tail, recursion_from_All, same_from_all_zip}
@@ -31,20 +31,20 @@ pub use Rattle.prost_reflect_wire.specs.Decoding.{BodyJoined, ElementsJoined, El
 pub use Rattle.prost_reflect_wire.specs.Edit.{PathTo, cleared, default_of, default_value, holds_message, in_message, merged, message_of_kind, pairs_hold_message, set_at, set_field, value_or_default, values_hold_message, with_field_value, with_value}
 pub use Rattle.prost_reflect_wire.specs.EntryReading.{BodyFault, IsMapped, ScalarEntryTo}
 pub use Rattle.prost_reflect_wire.specs.Fault.{ElementEnds, ElementFault, ElementPasses, Here, InGroup, InMessage, OfType, StandsInMessage, ValueFault, one_takes, opens_level, same_wire}
-pub use Rattle.prost_reflect_wire.specs.Front.{DelimitedFront, FieldFront, KeyFault, KeyFront, PlainFault, PlainFront, RecordsFront, ValueFront, VarintFault, VarintFront}
+pub use Rattle.prost_reflect_wire.specs.Front.{DelimitedFront, KeyFault, KeyFront, PlainFault, PlainFront, RecordsFront, ValueFront, VarintFault, VarintFront}
 pub use Rattle.prost_reflect_wire.specs.Grammar.{Accepts, LEVEL_LIMIT, allows, has_level, is_stray, unknown_payloads, value_payloads, value_records}
 unfoldable pub use Rattle.prost_reflect_wire.specs.Grammar.{unpacked}
-pub use Rattle.prost_reflect_wire.specs.Levels.{greatest_level, levels, stray_levels}
+pub use Rattle.prost_reflect_wire.specs.Levels.{levels, stray_levels}
 pub use Rattle.prost_reflect_wire.specs.Meaning.{JoinsInside, MeansInside, decoded, empty_inside, joins_nothing, meaning, pairs_in, put, scalar_values, slot_step, steps_by, value_joined, value_steps, values_in}
 unfoldable pub use Rattle.prost_reflect_wire.specs.Meaning.{steps}
-pub use Rattle.prost_reflect_wire.specs.Record.{Fix32, Fix64, Flat, Group, Len, Payload, Plain, Record, Records, Spells, Var, body_of, items, payload_levels, payload_valid, payload_wire, plain_wire, raw_levels, record_at, short_key, short_plain, spelled, valid}
+pub use Rattle.prost_reflect_wire.specs.Record.{Flat, Len, Payload, Plain, Record, Records, Spells, Var, body_of, items, payload_levels, payload_valid, plain_wire, record_at, short_key, short_plain, spelled, valid}
 pub use Rattle.prost_reflect_wire.specs.Scalar.{Bytes, BytesKind, Closed, Double, Enum, EnumNumber, EnumNumbers, Float, Open, Scalar, ScalarKind, StringKind, Text, elem, in_i32, is_less, is_undeclared, kind_default, kind_wire, low_i32, scalar_cmp, scalar_eq, scalar_valid, written}
-pub use Rattle.prost_reflect_wire.specs.Schema.{Field, FieldForm, GroupOf, Kind, MapFrom, MessageOf, Repeated, ScalarOf, Schema, Singular, ValueType, field_of, field_valid, form_valid, is_group, is_key_kind, is_list, is_map, is_message, is_packable, is_packable_kind, is_sibling, is_singular, kind_valid, known, message_has_presence, numbers_differ, passes, schema_valid}
+pub use Rattle.prost_reflect_wire.specs.Schema.{Field, FieldForm, GroupOf, Kind, MapFrom, MessageOf, Repeated, ScalarOf, Schema, Singular, ValueType, field_of, field_valid, form_valid, is_key_kind, is_list, is_map, is_message, is_packable, is_packable_kind, is_sibling, is_singular, kind_valid, known, message_has_presence, numbers_differ, passes, schema_valid}
 pub use Rattle.prost_reflect_wire.specs.Sinks.{Adds}
 pub use Rattle.prost_reflect_wire.specs.Storing.{slot_bytes, stored_bytes, value_bytes, with_stored}
 pub use Rattle.prost_reflect_wire.specs.Typing.{EntriesTyped, EntryTest, IsOf, PairsTyped, Typed, ValueStored, ValueTyped, ValuesTyped, WellStored, WellTyped, alone_test, element_valid, elements_valid, encodable, exclusive, fit_test, is_empty_value, is_field_default, is_of_type, is_whole_stray, kept, kept_entries, kept_inside, kept_pairs, kept_value, kept_values, kind_for, kind_takes, own_kind, pairs_pass, pairs_valid, unknown_fits, value_passes, value_valid, values_pass}
 pub use Rattle.prost_reflect_wire.specs.Unknown.{SkipsValue, records_of, unknown_fields_of, unknown_record}
-pub use Rattle.prost_reflect_wire.specs.Varint.{AreBytes, are_bytes, guard, ◌>>=◌}
+pub use Rattle.prost_reflect_wire.specs.Varint.{AreBytes, guard, ◌>>=◌}
 pub use Rattle.prost_reflect_wire.specs.Writing.{element_payloads, encoded, end_to_end, entries_records, entry_record, is_default_of, list_payloads, message_payload, pair_payloads, records}
 pub use Rattle.prost_reflect_wire.specs.declared.error.DecodeError.{DecodeError}
 pub use Rattle.prost_reflect_wire.specs.declared.key.WireType.{WireType}
@@ -53,11 +53,11 @@ pub use Rattle.prost_reflect_wire.proofs.Bodies.{items_body}
 pub use Rattle.prost_reflect_wire.proofs.ByteLists.{bytes_below}
 pub use Rattle.prost_reflect_wire.proofs.Numbers.{Ascending, Covers, empty_slot, entries_ascending, eqb-sym, in_insert, insert_ascending, is_in, not_in, slot_outside, slot_table, slots_same, table_covers, table_same, unknowns_apart, unknowns_here, value_apart, value_here}
 pub use Rattle.prost_reflect_wire.proofs.PlainFronts.{delimited_plain, varint_plain}
-pub use Rattle.prost_reflect_wire.proofs.RecordFronts.{field_front, field_once, first_front, first_parts, key_shorter, levels_first, payload_no_longer, record_parts, value_once}
+pub use Rattle.prost_reflect_wire.proofs.RecordFronts.{first_front, first_parts, value_once}
 pub use Rattle.prost_reflect_wire.proofs.SinkSteps.{adds_in_turn, adds_same}
 pub use Rattle.prost_reflect_wire.proofs.Survivors.{field_number, filter_append}
 pub use Rattle.prost_reflect_laws.proofs.Arranged.{OrderedOption, table_ordered}
-pub use Rattle.prost_reflect_laws.proofs.Checked.{checked_field, checked_list, checked_map, found_valid, known_differ, known_valid}
+pub use Rattle.prost_reflect_laws.proofs.Checked.{checked_field, checked_list, found_valid, known_differ, known_valid}
 pub use Rattle.prost_reflect_laws.proofs.Kept.{entries_kept_ordered, kept_content, kept_schema, kept_type, kept_well}
 pub use Rattle.prost_reflect_laws.proofs.ListSteps.{IsListed, and_nothing}
 pub use Rattle.prost_reflect_laws.proofs.MessageSteps.{FoundNested, Nested, OneMessage, ReadInto, group_holds, is_its_type, message_holds, message_kind, needs_nested, nested_sound, takes_nested}
@@ -70,16 +70,16 @@ pub use Rattle.prost_reflect_tables.specs.Equality.{rows_decide, rows_eq}
 pub use Rattle.prost_reflect_tables.specs.Linked.{enum_linked, field_linked, has_entry_numbers, is_linked, kind_in_range, message_linked, oneof_in_range}
 pub use Rattle.prost_reflect_tables.specs.Linking.{is_repeated}
 pub use Rattle.prost_reflect_tables.specs.Places.{fields_at, fields_or_none, place_of, row_of}
-pub use Rattle.prost_reflect_tables.specs.Rows.{EnumRow, EnumValueRow, FieldRow, MessageRow, TableRows, enum_row, field_row, value_numbers}
-pub use Rattle.prost_reflect_tables.specs.Shown.{entry_at, entry_or_none, enum_kind, enum_numbers, first_number, form_of, map_entry, own_type, schema_default, schema_field, schema_kind, type_or, value_type_of}
+pub use Rattle.prost_reflect_tables.specs.Rows.{EnumRow, EnumValueRow, FieldRow, MessageRow, TableRows, field_row}
+pub use Rattle.prost_reflect_tables.specs.Shown.{enum_kind, first_number, form_of, map_entry, own_type, schema_default, schema_field, schema_kind, value_type_of}
 unfoldable pub use Rattle.prost_reflect_tables.specs.Shown.{schema_from}
 pub use Rattle.prost_reflect_tables.specs.declared.tables.Cardinality.{Cardinality}
 pub use Rattle.prost_reflect_tables.specs.declared.tables.TableKind.{TableKind}
-pub use Rattle.prost_reflect_tables.proofs.Fields.{field_of_number, known_row, known_rows, no_row, row_at_number, row_at_place, row_of_number}
+pub use Rattle.prost_reflect_tables.proofs.Fields.{no_row, row_at_number, row_at_place, row_of_number}
 pub use Rattle.prost_reflect_tables.proofs.Keeping.{entry_keeps, field_keeps, fields_ascend, passes_at, schema_is_valid}
 pub use Rattle.prost_reflect_pool.specs.Enums.{first_of, numbers_or_none, values_at, values_or_none}
 pub use Rattle.prost_reflect_pool.specs.Lookups.{extending_or_none, extension_where, json_named_field, named_field, named_value, numbered_value}
-pub use Rattle.prost_reflect_pool.specs.MapParts.{entry_parts, map_parts, two_of}
+pub use Rattle.prost_reflect_pool.specs.MapParts.{map_parts}
 pub use Rattle.prost_reflect_pool.specs.MessageTypes.{SameMessage, fields_of, schema_at, type_at}
 pub use Rattle.prost_reflect_pool.specs.PoolEquality.{contents_decide, contents_eq}
 unfoldable pub use Rattle.prost_reflect_pool.specs.Pools.{contents_of}
@@ -90,7 +90,7 @@ pub use Rattle.prost_reflect_pool.proofs.EqualTypes.{rows_follow, rows_same}
 pub use Rattle.prost_reflect_fields.specs.FieldSlots.{UnknownAdded, has_value, left_in, numbered, put_slot, put_value, records_at, records_in, revalued, stored_at, then_slot, unknown_at, unknown_in, unknown_sets, value_alone, value_in, values_alone, values_where, with_slot, with_value_in, without_values}
 pub use Rattle.prost_reflect_maps.specs.Items.{IsAscending, item_at, put_item, with_item}
 pub use Rattle.prost_reflect_maps.specs.ItemsLeft.{items_left, items_left_back}
-pub use Rattle.prost_reflect_fields.specs.Known.{all_kept, are_records_of, are_siblings, is_known, is_listed, keeps_unknown, known_of, oneof_of}
+pub use Rattle.prost_reflect_fields.specs.Known.{all_kept, are_records_of, are_siblings, is_known, is_listed, keeps_unknown, known_of}
 pub use Rattle.prost_reflect_maps.specs.NumberSets.{AreReplaced, has, is_chosen, put_chosen}
 pub use Rattle.prost_reflect_fields.specs.WholeOneofs.{HasWholeOneofs}
 pub use Rattle.prost_reflect_fields.specs.Sound.{IsSound, Sound, UnknownKept, prepared, set_value_at, unknown_kept}
@@ -104,35 +104,40 @@ pub use Rattle.prost_reflect_dynamic.specs.ContentLaws.{MapInsert, MessageOrder,
 pub use Rattle.prost_reflect_dynamic.specs.Contents.{cleared_if, entries_without, in_entries, set_if, unknown_added, value_cleared, value_set, values_taken, with_unknown}
 pub use Rattle.prost_reflect_dynamic.specs.Copies.{SameSlot, SameStored, SameStoring, pairs_seen}
 pub use Rattle.prost_reflect_dynamic.specs.DeepTypes.{all_typed, entries_typed, items_typed, kind_place, pairs_typed, place_for, stands_there, stored_kind, value_typed}
-pub use Rattle.prost_reflect_dynamic.specs.Defaults.{IsDefaultBy, IsDefaultByRow, IsEmptyOf, IsRowDefault, default_by_row, place_named, row_default, single_place}
+pub use Rattle.prost_reflect_dynamic.specs.Defaults.{IsDefaultBy, IsDefaultByRow, IsEmptyOf, IsRowDefault, default_by_row, row_default}
+pub use Rattle.prost_reflect_rows.specs.RowKinds.{place_named, single_place, names_message}
 pub use Rattle.prost_reflect_dynamic.specs.Depths.{GivesInside, LendsInside}
 pub use Rattle.prost_reflect_dynamic.specs.Edits.{IsPart, IsWhole, LeavesMessage, LeavesSet, Removes, Sets, held_set}
 pub use Rattle.prost_reflect_dynamic.specs.Encodables.{arranged, entries_pass, fits_at, items_pass, slot_passes, slots_pass, value_arranged}
 pub use Rattle.prost_reflect_dynamic.specs.Encoding.{AreWritable, IsWritable, OwnUnknown, ValueWritable, entries_bytes, nested_bytes, unknown_bytes}
 pub use Rattle.prost_reflect_dynamic.specs.ExtensionAccess.{IsOwnExtension, extension_number, extension_takes}
 pub use Rattle.prost_reflect_dynamic.specs.KeptLaws.{Arranged, KeptAfterClear, KeptAfterClearAll, KeptAfterSet, KeptAfterUnknown, KeptAfterWriting, MessageArranged}
-pub use Rattle.prost_reflect_dynamic.specs.Lists.{AddsElements, AddsPacked, AreElements, ElementWritable, IsList, IsListOrNone, JoinsElements, ListField, RefusesElements, RefusesPacked, TakesScalars, element_bytes, elements_bytes, list_bytes, payloads_bytes, records_bytes, with_element}
-pub use Rattle.prost_reflect_dynamic.specs.Maps.{IsAbsentValue, IsDefaultOf, IsKindDefault, IsMap, MapOfRows, ReadsEntry, RefusesEntry, ScalarMap, TakesPairs, entry_bytes, pairs_bytes}
-pub use Rattle.prost_reflect_dynamic.specs.Merged.{BeginsWith, HasNumbersOf, IsJoined, IsMeaningOfBytes, IsMeaningOfRecords, MergesMeaning}
+pub use Rattle.prost_reflect_dynamic.specs.Lists.{AddsElements, AddsPacked, AreElements, ElementWritable, IsList, IsListOrNone, JoinsElements, RefusesElements, RefusesPacked, TakesScalars, element_bytes, elements_bytes, list_bytes, payloads_bytes, records_bytes, with_element}
+pub use Rattle.prost_reflect_rows.specs.FieldKinds.{ListField, MapOfRows, ScalarMap, NestedMap, NestedMapOfRows, NumberList, PlainField, NestedField, NestedList, nested_kind}
+pub use Rattle.prost_reflect_dynamic.specs.Maps.{IsAbsentValue, IsDefaultOf, IsKindDefault, IsMap, ReadsEntry, RefusesEntry, TakesPairs, entry_bytes, pairs_bytes}
+pub use Rattle.prost_reflect_rows.specs.RecordNumbers.{HasNumbersOf}
+pub use Rattle.prost_reflect_dynamic.specs.Merged.{IsJoined, IsMeaningOfBytes, IsMeaningOfRecords, MergesMeaning}
 pub use Rattle.prost_reflect_dynamic.specs.Named.{NamesEqual, NamesSame, schema_named, type_named}
 pub use Rattle.prost_reflect_dynamic.specs.NamedExtensions.{Extends, extension_named, extension_row_named}
 pub use Rattle.prost_reflect_dynamic.specs.NamedField.{row_at}
-pub use Rattle.prost_reflect_dynamic.specs.NamedFields.{declared_place, descriptor_fields, is_declared, is_declared_at}
-pub use Rattle.prost_reflect_dynamic.specs.NamedKinds.{enums_in, kind_named, table_kind}
+pub use Rattle.prost_reflect_rows.specs.Paths.{declared_place, field_at, message_inside, own_field, path_place, row_led}
+pub use Rattle.prost_reflect_dynamic.specs.NamedFields.{descriptor_fields, is_declared, is_declared_at}
+pub use Rattle.prost_reflect_rows.specs.KindNames.{enums_in}
+pub use Rattle.prost_reflect_dynamic.specs.NamedKinds.{kind_named, table_kind}
 pub use Rattle.prost_reflect_dynamic.specs.NamedLists.{values_of}
-pub use Rattle.prost_reflect_dynamic.specs.Nested.{HeldMessage, NestedFault, NestedRead, ReadInside, ReadIntoHeld, StandsBehindNested, StandsInHeld, nested_wire}
-pub use Rattle.prost_reflect_dynamic.specs.NestedMaps.{AreEntries, NestedMap, NestedMapOfRows, ReadsNestedEntry, RefusesNestedEntry, nested_entry_bytes, nested_pairs_bytes}
-pub use Rattle.prost_reflect_dynamic.specs.Numbers.{BodyTaken, JoinsNumbers, NumberList, PartsNumbers, declared_in, is_stray_varint, number_element, numbers_taken, strays_in, varints_added}
-pub use Rattle.prost_reflect_dynamic.specs.Paths.{HeldPath, IsSetAt, PATH_LIMIT, SetInHeld, field_at, field_led, message_inside, own_field, path_place, place_behind, row_led, type_inside}
+pub use Rattle.prost_reflect_dynamic.specs.Nested.{HeldMessage, NestedRead, ReadInside, ReadIntoHeld, StandsBehindNested, StandsInHeld}
+pub use Rattle.prost_reflect_rows.specs.Nested.{NestedFault, nested_wire}
+pub use Rattle.prost_reflect_dynamic.specs.NestedMaps.{AreEntries, ReadsNestedEntry, RefusesNestedEntry, nested_entry_bytes, nested_pairs_bytes}
+pub use Rattle.prost_reflect_dynamic.specs.Numbers.{BodyTaken, JoinsNumbers, PartsNumbers, declared_in, is_stray_varint, number_element, numbers_taken, strays_in, varints_added}
+pub use Rattle.prost_reflect_dynamic.specs.Paths.{HeldPath, IsSetAt, SetInHeld}
 pub use Rattle.prost_reflect_walks.specs.Places.{GivesNext}
 pub use Rattle.prost_reflect_dynamic.specs.Present.{entry_present, kept_slot, number_listed, present_in, slot_present, unknown_present, value_present}
 pub use Rattle.prost_reflect_dynamic.specs.PresentWalks.{ExtensionItem, FieldItem, IsItem, IsOwn, NestsInside, PresentItem, UnknownItem, all_items, items_of, present_items, present_left, present_steps, slot_items, unknown_items, value_items, value_or, waiting_items}
-pub use Rattle.prost_reflect_dynamic.specs.RowKinds.{is_plain, is_plain_kind, names_message}
 pub use Rattle.prost_reflect_dynamic.specs.RowLawProofs.{extension_default_fits, field_default_fits, some_there}
 pub use Rattle.prost_reflect_dynamic.specs.Same.{equal_messages, equal_values, message_decides, same_entries, same_items, same_message, same_pairs, same_value, value_decides}
-pub use Rattle.prost_reflect_dynamic.specs.Scalars.{HasWire, IsBlank, IsElement, IsScalar, PlainField, ReadsScalar, ReadsStray, RefusesScalar, StaysUnknown, TakesScalar, is_stray_number, kept_scalar_bytes, plain_kind, scalar_bytes, scalar_in, scalar_of, scalar_record_bytes}
+pub use Rattle.prost_reflect_rows.specs.Scalars.{HasWire, TakesScalar, is_stray_number, kept_scalar_bytes, scalar_bytes, scalar_record_bytes}
+pub use Rattle.prost_reflect_dynamic.specs.Scalars.{IsBlank, IsElement, IsScalar, ReadsScalar, ReadsStray, RefusesScalar, StaysUnknown, plain_kind, scalar_in, scalar_of}
 pub use Rattle.prost_reflect_dynamic.specs.Stored.{BothAt, ItemThen, NoItems, NothingStored, PairThen, StoredEntries, StoredInside, StoredItems, StoredList, StoredMap, StoredMessage, StoredPairs, StoredScalar, StoredValue, UnknownAt, ValueAt, message_stored, stored_entries, stored_entry, stored_items, stored_message_step, stored_pairs, stored_step, value_stored}
-pub use Rattle.prost_reflect_dynamic.specs.Targets.{IsTarget, NestedField, NestedList, element_target_of, entry_target_of, nested_kind, repeated_target_of, target_of}
 pub use Rattle.prost_reflect_dynamic.specs.TypedSteps.{StaysTyped, ValueStaysTyped, element_typed, entry_typed, item_added, item_last, typed_as, typed_at}
 pub use Rattle.prost_reflect_dynamic.specs.UnknownLists.{UnknownListed, all_unknown, taken_left, unknown_left, unknown_records, without_unknown}
 pub use Rattle.prost_reflect_dynamic.specs.ValueLists.{IsExtensionPair, IsFieldPair, extensions_left, extensions_steps, fields_left, fields_steps, had_in, had_numbers, had_pairs, had_values, said, values_left}

@@ -7,10 +7,10 @@ use Rattle.prost_reflect_tables.specs.declared.tables.Cardinality.TheVariants.{O
 use Rattle.prost_reflect_tables.specs.declared.tables.TableKind.TheVariants as kinds
 use Rattle.prost_reflect_fields.specs.declared.slot.FieldSlot.TheVariants as slots
 use Rattle.prost_reflect_dynamic.specs.declared.value.Value as values
-use Rattle.prost_reflect_dynamic.specs.DeepTypes.{place_named}
+use Rattle.prost_reflect_rows.specs.RowKinds.{place_named}
 use Rattle.prost_reflect_dynamic.specs.Stored.{StoredMessage, MessageOf as StoredOf, StoredEntries, NothingStored, ValueAt, UnknownAt, BothAt, StoredValue, StoredScalar, StoredInside, StoredList, StoredMap, StoredItems, NoItems, ItemThen, StoredPairs, NoPairs, PairThen, stored_entry, stored_entries, stored_step, stored_message_step, value_stored, message_stored}
-use Rattle.prost_reflect_dynamic.proofs.MapRows.{shown_map}
-use Rattle.prost_reflect_dynamic.proofs.RowKinds.{no_map}
+use Rattle.prost_reflect_rows.proofs.MapRows.{shown_map}
+use Rattle.prost_reflect_rows.proofs.RowKinds.{no_map}
 use Rattle.prost_reflect_dynamic.proofs.StoredContents.{content_from, entries_content, value_content, items_content, pairs_content, message_follows}
 use Rattle.prost_reflect_dynamic.proofs.StoredViews.{stored_message}
 

@@ -6,12 +6,12 @@ use Rattle.prost_reflect_wire.specs.Typing.{EntryTest}
 use Rattle.prost_reflect_tables.specs.declared.tables.TableKind.TheVariants as kinds
 use Rattle.prost_reflect_dynamic.specs.RowLawProofs.{default_fits}
 use Rattle.prost_reflect_dynamic.specs.declared.value.Value as values
-use Rattle.prost_reflect_dynamic.proofs.Described.{found_checked}
+use Rattle.prost_reflect_rows.proofs.Described.{found_checked}
 use Rattle.prost_reflect_dynamic.proofs.FieldDefaults.{scalar_default, many_form}
 use Rattle.prost_reflect_dynamic.proofs.OwnExtensions.{extension_found}
 use Rattle.prost_reflect_dynamic.proofs.OwnFields.{own_found}
 use Rattle.prost_reflect_dynamic.proofs.Parts.{stored_part}
-use Rattle.prost_reflect_dynamic.proofs.PlainKinds.{single_row, own_of}
+use Rattle.prost_reflect_rows.proofs.PlainKinds.{single_row, own_of}
 use Rattle.prost_reflect_dynamic.proofs.Stored.{value_of_message}
 use Rattle.prost_reflect_dynamic.proofs.TypedValues.{scalar_there, empty_list_there, empty_map_there, message_held, own_place, empty_there}
 

@@ -6,7 +6,7 @@ use Rattle.prost_reflect_wire.specs.Typing.{entries_pass}
 use Rattle.prost_reflect_dynamic.specs.Edits.{StaysBeside}
 use Rattle.prost_reflect_dynamic.specs.declared.value.Value as values
 use Rattle.prost_reflect_dynamic.proofs.ContentChanges.{slots_after_clear, slots_after_set, message_arranged}
-use Rattle.prost_reflect_dynamic.proofs.Described.{schema_at_valid}
+use Rattle.prost_reflect_rows.proofs.Described.{schema_at_valid}
 use Rattle.prost_reflect_dynamic.proofs.Had.{has_found}
 use Rattle.prost_reflect_dynamic.proofs.KeptSlots.{kept_slot, slot_kept, kept_after_set, kept_after_clear, kept_after_clear_all}
 use Rattle.prost_reflect_dynamic.proofs.Merging.{differ_in, known_in}

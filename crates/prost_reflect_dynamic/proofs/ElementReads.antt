@@ -1,48 +1,14 @@
 -- Messages and groups read as elements of the list of their field.
 use Rattle.std.specs.Prelude.{◌≡◌, ◌++◌, ◌∷◌}
-use Rattle.prost_reflect_dynamic.proofs.Common.{ℕ, suc, Bool, true, false, List, [], Option, Some, None, refl, sym, ap, ap₂, ◌∙◌, subst, true≢false, Vec, unwrap_or, map, Global, map-append, DecodeError, WireType, KeyFront, Repeated, Field, known, field_of, is_list, is_map, Content, ContentOf, MessageValue, ListValue, NoValues, ◌and_then◌, empty, value_at, entries_of, schema_of, type_of, values_from, WellStored, with_field_value, message_of_kind, Step, StandsBehindKey, field_number, IsListed, FoundNested, TableKind, FieldRow, schema_kind, schema_field, is_repeated, PooledType, DynamicMessage, Value, value_set, is_plain_kind, names_message, schema_at, known_of, IsList, IsListOrNone, ListField, with_element, NumberList, pool_rows, nested_kind, NestedList, IsTarget, element_target_of, ReadInside, NestedRead, StandsBehindNested, value_of, content_of, message_type_of}
+use Rattle.prost_reflect_dynamic.proofs.Common.{ℕ, suc, Bool, true, false, List, [], Option, Some, None, refl, sym, ap, ◌∙◌, subst, Vec, unwrap_or, map, Global, map-append, DecodeError, WireType, KeyFront, Field, known, field_of, is_map, Content, ContentOf, MessageValue, ListValue, NoValues, ◌and_then◌, empty, value_at, entries_of, schema_of, type_of, values_from, WellStored, with_field_value, message_of_kind, Step, StandsBehindKey, field_number, IsListed, FoundNested, DynamicMessage, Value, value_set, schema_at, IsList, IsListOrNone, with_element, nested_kind, NestedList, ReadInside, NestedRead, StandsBehindNested, value_of, content_of, message_type_of}
 use Rattle.prost_reflect_wire.specs.declared.key.WireType.TheVariants as wires
 use Rattle.prost_reflect_wire.specs.Content as contents
 use Rattle.prost_reflect_laws.proofs.ElementSteps.{ManyMessages, elements_at, message_element_holds, group_element_holds}
-use Rattle.prost_reflect_tables.specs.declared.tables.TableKind.TheVariants as kinds
-use Rattle.prost_reflect_dynamic.specs.declared.message.decode.Target.TheVariants as targets
 use Rattle.prost_reflect_dynamic.specs.declared.value.Value as values
-use Rattle.prost_reflect_dynamic.proofs.Described.{named_in_range}
-use Rattle.prost_reflect_dynamic.proofs.ListMerging.{list_field}
 use Rattle.prost_reflect_dynamic.proofs.Merging.{known_in, differ_in}
 use Rattle.prost_reflect_dynamic.proofs.NestedReads.{behind_inside, schema_in, step_set, whole}
-use Rattle.prost_reflect_dynamic.proofs.NumberMerging.{number_list}
-use Rattle.prost_reflect_dynamic.proofs.PlainKinds.{list_kind}
-use Rattle.prost_reflect_dynamic.proofs.RowKinds.{message_named}
+use Rattle.prost_reflect_rows.proofs.RowKinds.{message_named}
 use Rattle.prost_reflect_dynamic.proofs.Views.{value_of_list}
-
--- WHAT A RECORD IS READ AS
-
-pub list_target : (kind : TableKind) (g : Bool) → names_message kind ≡ false → ((E : ℕ) → kind ≡ kinds.Enum E → ⊥) → element_target_of kind g ≡ targets.List kind
-list_target (kinds.Message T) g e none = absurd (true≢false e)
-list_target (kinds.Enum E) g e none = absurd (none E refl)
-list_target kind g e none = refl
-
-module _ (d : PooledType) (n : ℕ) (row : FieldRow) (found : field_of (known_of d) n ≡ Some (schema_field (pool_rows d.pool) row)) (many : is_repeated row.cardinality ≡ true) (form : (schema_field (pool_rows d.pool) row).form ≡ Repeated row.is_packed) where
-  nested_list : (T : ℕ) (g : Bool) → row.kind ≡ kinds.Message T → row.is_group ≡ g → NestedList d n T g
-  nested_list T g k i =
-      let own : (schema_field (pool_rows d.pool) row).value_type.kind ≡ nested_kind g T = list_kind (pool_rows d.pool) row many (ap is_list form) ∙ ap₂ (schema_kind (pool_rows d.pool).enums) k i in
-      record {
-        field = schema_field (pool_rows d.pool) row;
-        packed = row.is_packed;
-        found = found;
-        form = form;
-        kind_is = own;
-        in_range = named_in_range d n (schema_field (pool_rows d.pool) row) T found (ap message_of_kind own ∙ message_named g T);
-      }
-
-  pub element_target_is : IsTarget d n (element_target_of row.kind row.is_group)
-  element_target_is = go row.kind row.is_group refl refl
-    where
-      go : (kind : TableKind) (g : Bool) → row.kind ≡ kind → row.is_group ≡ g → IsTarget d n (element_target_of kind g)
-      go (kinds.Message T) g k i = nested_list T g k i
-      go (kinds.Enum E) g k i = subst (NumberList d n) k (number_list d n row E found many k)
-      go kind g k i = subst (ListField (known_of d) n) k (list_field d n row found many (ap is_plain_kind k))
 
 -- THE LIST
 

@@ -4,10 +4,10 @@ use Rattle.prost_reflect_dynamic.proofs.Common.{ℕ, Bool, true, false, not, Lis
 use Rattle.prost_reflect_wire.specs.Content as contents
 use Rattle.prost_reflect_laws.proofs.ListWritten.{messages_written}
 use Rattle.prost_reflect_dynamic.specs.declared.value.Value as values
-use Rattle.prost_reflect_dynamic.proofs.RowKinds.{message_kind}
-use Rattle.prost_reflect_dynamic.proofs.Described.{found_checked}
+use Rattle.prost_reflect_rows.proofs.RowKinds.{message_kind}
+use Rattle.prost_reflect_rows.proofs.Described.{found_checked}
 use Rattle.prost_reflect_dynamic.proofs.NestedWrites.{no_message_value, kind_bytes_before, shown_plain, shown_group}
-use Rattle.prost_reflect_dynamic.proofs.PlainKinds.{list_kind}
+use Rattle.prost_reflect_rows.proofs.PlainKinds.{list_kind}
 use Rattle.prost_reflect_dynamic.proofs.Views.{value_of_list, value_of_message}
 use Rattle.prost_reflect_dynamic.proofs.WrittenValues.{passing, is_message_value}
 

@@ -6,7 +6,7 @@ use Rattle.prost_reflect_tables.specs.declared.tables.Cardinality.TheVariants.{O
 use Rattle.prost_reflect_tables.specs.declared.tables.TableKind.TheVariants as kinds
 pub use Rattle.prost_reflect_dynamic.specs.RowLawProofs.{row_checked, default_fits}
 use Rattle.prost_reflect_dynamic.specs.declared.value.Value.{Value as Owned}
-use Rattle.prost_reflect_dynamic.proofs.PlainKinds.{single_row, own_of}
+use Rattle.prost_reflect_rows.proofs.PlainKinds.{single_row, own_of}
 
 -- LISTS AND MAPS
 

@@ -4,7 +4,7 @@ use Rattle.prost_reflect_dynamic.proofs.Common.{ℕ, true, false, List, [], leng
 use Rattle.prost_reflect_wire.specs.Content as contents
 use Rattle.prost_reflect_dynamic.proofs.Merging.{known_in, valid_in}
 use Rattle.prost_reflect_dynamic.proofs.NestedReads.{schema_in, held_is, held_of}
-use Rattle.prost_reflect_dynamic.proofs.Paths.{not_empty}
+use Rattle.prost_reflect_rows.proofs.PathPlaces.{not_empty}
 use Rattle.prost_reflect_dynamic.proofs.SetPaths.{default_message, set_one, set_more}
 
 -- at its last number

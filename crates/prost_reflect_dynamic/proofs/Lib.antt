@@ -1,8 +1,6 @@
 mod Common
 mod Depths
 pub mod ScalarReads
-pub mod RowKinds
-pub mod PlainKinds
 pub mod Views
 pub mod Slots
 pub mod Stored
@@ -12,11 +10,9 @@ pub mod NestedReads
 pub mod MapEntries
 pub mod MapMerging
 pub mod MapRows
-mod RepeatedRows
 mod NestedMapWrites
 pub mod ContentChanges
 pub mod KeptSlots
-pub mod Described
 pub mod ScalarRefs
 pub mod WrittenValues
 pub mod NestedWrites
@@ -28,7 +24,6 @@ pub mod Encodings
 pub mod Encodables
 pub mod PresentNumbers
 pub mod Defaults
-mod DeclaredNumbers
 pub mod Keys
 pub mod Valid
 pub mod Copied
@@ -69,6 +64,5 @@ pub mod ReadBack
 mod MergedPieces
 mod MergedBytes
 mod JoinedContents
-mod ChangedNumbers
 mod MessageParts
 mod PartCopies

@@ -1,12 +1,10 @@
 -- Records of lists read into a message.
 use Rattle.std.specs.Prelude.{◌≡◌, ◌∷◌, ◌++◌}
-use Rattle.prost_reflect_dynamic.proofs.Common.{ℕ, Bool, true, not, List, [], map, Option, Some, None, refl, sym, ap, ◌∙◌, subst, unwrap_or, Vec, is_some, Global, WireType, DecodeError, AreBytes, ScalarKind, ScalarOf, Repeated, Field, known, field_of, numbers_differ, Content, ContentOf, ListValue, NoValues, Item, values_from, ◌and_then◌, schema_of, type_of, entries_of, value_at, values_in, WellStored, with_field_value, OfType, Step, ElementsRead, StandsBehindKey, field_number, checked_field, checked_list, IsListed, TableKind, DynamicMessage, Value, schema_at, known_of, value_of, content_of, message_type_of, value_set, is_plain_kind, FieldRow, schema_field, is_repeated, pool_rows, PooledType, AddsElements, RefusesElements, JoinsElements, IsList, ListField}
+use Rattle.prost_reflect_dynamic.proofs.Common.{ℕ, Bool, true, List, [], map, Option, Some, None, refl, sym, ap, ◌∙◌, subst, unwrap_or, Vec, Global, WireType, DecodeError, AreBytes, ScalarKind, ScalarOf, Repeated, Field, known, field_of, numbers_differ, Content, ContentOf, ListValue, NoValues, Item, values_from, ◌and_then◌, schema_of, type_of, entries_of, value_at, values_in, WellStored, with_field_value, OfType, Step, ElementsRead, StandsBehindKey, field_number, IsListed, TableKind, DynamicMessage, Value, known_of, value_of, content_of, message_type_of, value_set, AddsElements, RefusesElements, JoinsElements, IsList, ListField}
 use Rattle.prost_reflect_wire.specs.Content as contents
 use Rattle.prost_reflect_types.proofs.FieldsFound.{field_stands}
 use Rattle.prost_reflect_laws.proofs.ListReads.{IsOpen, stored_list, list_holds}
 use Rattle.prost_reflect_dynamic.specs.declared.value.Value as values
-use Rattle.prost_reflect_dynamic.proofs.PlainKinds.{plain_row, list_row}
-use Rattle.prost_reflect_dynamic.proofs.Described.{found_checked}
 use Rattle.prost_reflect_dynamic.proofs.Views.{value_of_list}
 use Rattle.prost_reflect_dynamic.proofs.Merging.{known_in, differ_in, same_kind}
 
@@ -54,31 +52,6 @@ list_or (Some v) h = absurd h
 pub values_or : (o : Option contents.Value) → values_in (Some (unwrap_or o (ListValue NoValues))) ≡ values_in o
 values_or None = refl
 values_or (Some v) = refl
-
--- a checked list is no member of a oneof
-pub list_alone : (d : PooledType) (n : ℕ) (f : Field) (packed : Bool) → field_of (known_of d) n ≡ Some f → f.form ≡ Repeated packed → f.oneof ≡ None
-list_alone d n f packed found form = let checked = checked_list (schema_at d) f packed (checked_field (schema_at d) f (found_checked d n f found)) form in none f.oneof checked.alone
-  where
-    none : (o : Option ℕ) → not (is_some o) ≡ true → o ≡ None
-    none None e = refl
-    none (Some o) e = cc
-
--- a repeated row of a plain kind is a list
-pub list_field : (d : PooledType) (n : ℕ) (row : FieldRow) → field_of (known_of d) n ≡ Some (schema_field (pool_rows d.pool) row) → is_repeated row.cardinality ≡ true → is_plain_kind row.kind ≡ true → ListField (known_of d) n row.kind
-list_field d n row found many plain =
-    let kind = plain_row (pool_rows d.pool) row plain in
-    let form : (schema_field (pool_rows d.pool) row).form ≡ Repeated row.is_packed = list_row (pool_rows d.pool) row many plain in
-    record {
-      field = schema_field (pool_rows d.pool) row;
-      scalar_kind = kind.scalar;
-      packed = row.is_packed;
-      found = found;
-      plain = kind.named;
-      form = form;
-      kind_is = kind.is;
-      alone = list_alone d n (schema_field (pool_rows d.pool) row) row.is_packed found form;
-      whole = kind.whole;
-    }
 
 -- MESSAGES
 

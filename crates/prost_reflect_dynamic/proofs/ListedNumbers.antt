@@ -4,7 +4,7 @@ use Rattle.prost_reflect_dynamic.proofs.Common.{ℕ, Bool, true, false, not, Opt
 use Rattle.prost_reflect_pool.specs.Pools.{pool_rows as rows_in, pool_contents as contents_in}
 use Rattle.prost_reflect_dynamic.specs.Named.{SameMessage}
 use Rattle.prost_reflect_dynamic.specs.NamedFields as named
-use Rattle.prost_reflect_dynamic.proofs.Described.{field_at_number}
+use Rattle.prost_reflect_rows.proofs.Described.{field_at_number}
 use Rattle.prost_reflect_pool.proofs.ExtensionPlaces.{FoundExtension, extension_found, extension_there}
 use Rattle.prost_reflect_dynamic.proofs.OwnFields.{number_found, number_missing}
 

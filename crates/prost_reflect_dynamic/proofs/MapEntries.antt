@@ -8,7 +8,7 @@ use Rattle.prost_reflect_dynamic.specs.declared.value.Value as values
 use Rattle.prost_reflect_dynamic.specs.Variants.{pairs_in}
 use Rattle.prost_reflect_dynamic.proofs.Views.{value_of_map}
 use Rattle.prost_reflect_dynamic.proofs.Keys.{map_insert}
-use Rattle.prost_reflect_dynamic.proofs.PlainKinds.{plain_payloads}
+use Rattle.prost_reflect_rows.proofs.PlainKinds.{plain_payloads}
 use Rattle.prost_reflect_dynamic.proofs.Merging.{read_own, own_fault, same_kind}
 
 -- ONE RECORD MORE

@@ -6,7 +6,7 @@ use Rattle.prost_reflect_wire.specs.Scalar as scalars
 use Rattle.prost_reflect_laws.proofs.EntryDefaults.{is_undeclared_value}
 use Rattle.prost_reflect_laws.proofs.MapSteps.{FoundMap, mapped_at, body_refused, entry_stands}
 use Rattle.prost_reflect_laws.proofs.BodyFronts.{delimited_bytes}
-use Rattle.prost_reflect_dynamic.proofs.PlainKinds.{stray_value}
+use Rattle.prost_reflect_rows.proofs.PlainKinds.{stray_value}
 use Rattle.prost_reflect_dynamic.proofs.Merging.{known_in, differ_in, valid_in, same_kind}
 
 -- KEYS

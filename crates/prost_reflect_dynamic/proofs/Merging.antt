@@ -1,18 +1,15 @@
 -- Records read into a message.
 use Rattle.std.specs.Prelude.{◌≡◌, ◌≢◌, ◌≤◌, ◌<◌, ◌^◌}
-use Rattle.prost_reflect_dynamic.proofs.Common.{inl, inr, arith, ℕ, Bool, List, Option, Some, None, refl, sym, ap, ap₂, ◌∙◌, subst, true, false, true≢false, option_and_then, and_from, lt-ltb, WireType, DecodeError, AreBytes, Payload, Flat, record_at, payload_levels, ValueFront, Scalar, ScalarKind, is_undeclared, ScalarOf, ValueType, Singular, Field, known, field_of, numbers_differ, is_message, schema_valid, Content, ContentOf, ScalarValue, schema_of, type_of, is_whole_stray, unknown_fits, WellStored, with_field_value, message_of_kind, is_stray, stray_levels, OfType, ValueFault, same_wire, Step, ScalarRead, ScalarFault, StandsBehindKey, value_once, TableKind, FieldRow, schema_kind, schema_field, is_repeated, PooledType, DynamicMessage, Value, pool_rows, known_of, keeps_unknown, oneof_of, value_of, content_of, message_type_of, PlainField, ReadsScalar, RefusesScalar, ReadsStray, StaysUnknown, is_stray_number, nested_kind, NestedField, IsTarget, target_of, value_set, unknown_added, names_message}
+use Rattle.prost_reflect_dynamic.proofs.Common.{inl, inr, arith, ℕ, List, Option, Some, None, sym, ap, ◌∙◌, subst, true, false, and_from, lt-ltb, WireType, DecodeError, AreBytes, Payload, Flat, record_at, payload_levels, ValueFront, Scalar, ScalarKind, is_undeclared, ScalarOf, Singular, Field, known, field_of, numbers_differ, schema_valid, Content, ContentOf, ScalarValue, schema_of, type_of, is_whole_stray, unknown_fits, WellStored, with_field_value, is_stray, stray_levels, OfType, ValueFault, same_wire, Step, ScalarRead, ScalarFault, StandsBehindKey, value_once, TableKind, PooledType, DynamicMessage, Value, pool_rows, known_of, keeps_unknown, value_of, content_of, message_type_of, PlainField, ReadsScalar, RefusesScalar, ReadsStray, StaysUnknown, is_stray_number, value_set, unknown_added}
 use Rattle.prost_reflect_wire.specs.declared.error.DecodeError.TheVariants as errors
 use Rattle.prost_reflect_wire.specs.Content as contents
 use Rattle.prost_reflect_laws.proofs.Holding.{scalar_holds, unknown_holds, stray_holds, payload_front_valid}
 use Rattle.prost_reflect_laws.proofs.ScalarFaults.{scalar_stands}
 use Rattle.prost_reflect_wire.proofs.PlaceFaults.{value_stands}
-use Rattle.prost_reflect_tables.specs.declared.tables.TableKind.TheVariants as kinds
-use Rattle.prost_reflect_dynamic.specs.declared.message.decode.Target.TheVariants as targets
-use Rattle.prost_reflect_dynamic.proofs.Described.{named_in_range, schema_at_valid}
+use Rattle.prost_reflect_rows.proofs.Described.{schema_at_valid}
 use Rattle.prost_reflect_dynamic.proofs.Views.{content_of_message}
-use Rattle.prost_reflect_dynamic.proofs.PlainKinds.{SamePayloads, scalar_row, single_row, own_of, plain_payloads, stray_payload}
+use Rattle.prost_reflect_rows.proofs.PlainKinds.{SamePayloads, plain_payloads, stray_payload}
 use Rattle.prost_reflect_fields.proofs.Siblings.{known_differ}
-use Rattle.prost_reflect_dynamic.proofs.RowKinds.{message_kind, message_named}
 
 -- a scalar's value was set
 pub set_step : (levels n : ℕ) (w : WireType) (c d : Content) (f : Field) (kind : ScalarKind) (v : contents.Value) (s : Scalar) (bytes rest : List ℕ) → WellStored c → numbers_differ (known (schema_of c) (type_of c)) ≡ true →
@@ -47,43 +44,6 @@ differ_in m = ap numbers_differ (known_in m) ∙ known_differ (message_type_of m
 -- the schema of a message is checked
 pub valid_in : (m : DynamicMessage) → schema_valid (schema_of (content_of m)) ≡ true
 valid_in m = ap (λ c. schema_valid (schema_of c)) (content_of_message m) ∙ schema_at_valid (message_type_of m)
-
--- WHAT A RECORD IS READ AS
-
-pub scalar_target : (kind : TableKind) (g : Bool) (o : Option ℕ) → names_message kind ≡ false → target_of kind g o ≡ targets.Scalar kind o
-scalar_target (kinds.Message T) g o e = absurd (true≢false e)
-scalar_target kind g o e = refl
-
-pub no_message_kind : (kind : TableKind) → ((T : ℕ) → kind ≡ kinds.Message T → ⊥) → names_message kind ≡ false
-no_message_kind (kinds.Message T) h = absurd (h T refl)
-no_message_kind kind h = refl
-
-module _ (d : PooledType) (n : ℕ) (row : FieldRow) (one : is_repeated row.cardinality ≡ false) (found : field_of (known_of d) n ≡ Some (schema_field (pool_rows d.pool) row)) where
-  single : (schema_field (pool_rows d.pool) row).form ≡ Singular
-  single = single_row (pool_rows d.pool) row one
-
-  own_kind : (schema_field (pool_rows d.pool) row).value_type.kind ≡ schema_kind (pool_rows d.pool).enums row.kind row.is_group
-  own_kind = ap (λ (t : ValueType). t.kind) (own_of (pool_rows d.pool) row single)
-
-  plain_field : names_message row.kind ≡ false → PlainField d n row.kind
-  plain_field apart =
-      let kind = scalar_row (pool_rows d.pool) row single (ap is_message own_kind ∙ message_kind (pool_rows d.pool).enums row.kind row.is_group ∙ apart) in
-      record { field = schema_field (pool_rows d.pool) row; scalar_kind = kind.scalar; found = found; form = single; kind_is = kind.is; named = kind.named }
-
-  nested_field : (T : ℕ) (g : Bool) → row.kind ≡ kinds.Message T → row.is_group ≡ g → NestedField d n T g
-  nested_field T g k i =
-      let is : (schema_field (pool_rows d.pool) row).value_type.kind ≡ nested_kind g T = own_kind ∙ ap₂ (schema_kind (pool_rows d.pool).enums) k i in
-      record { field = schema_field (pool_rows d.pool) row; found = found; form = single; kind_is = is; in_range = named_in_range d n (schema_field (pool_rows d.pool) row) T found (ap message_of_kind is ∙ message_named g T) }
-
-  own_oneof : row.oneof ≡ oneof_of (known_of d) n
-  own_oneof = ap (option_and_then (λ (f : Field). f.oneof)) (sym found)
-
-  pub target_is : IsTarget d n (target_of row.kind row.is_group row.oneof)
-  target_is = go row.kind row.is_group refl refl
-    where
-      go : (kind : TableKind) (g : Bool) → row.kind ≡ kind → row.is_group ≡ g → IsTarget d n (target_of kind g row.oneof)
-      go (kinds.Message T) g k i = (nested_field T g k i, own_oneof)
-      go kind g k i = (subst (PlainField d n) k (plain_field (ap names_message k)), own_oneof)
 
 -- what is read by the plain kind is read by the own
 pub read_own : (plain own : ScalarKind) (w : WireType) (s : Scalar) (bytes rest : List ℕ) → SamePayloads plain own → ScalarRead plain w s bytes rest → ScalarRead own w s bytes rest

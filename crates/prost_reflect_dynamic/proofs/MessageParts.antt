@@ -11,7 +11,7 @@ use Rattle.prost_reflect_dynamic.proofs.Copied.{entry_parts, parts_of, sound_cop
 use Rattle.prost_reflect_dynamic.proofs.StoredContents.{contents_shown}
 use Rattle.prost_reflect_dynamic.proofs.Merging.{known_in, differ_in}
 use Rattle.prost_reflect_dynamic.proofs.JoinedContents.{Closed, part_sound, joined_read}
-use Rattle.prost_reflect_dynamic.proofs.ChangedNumbers.{allowed_low}
+use Rattle.prost_reflect_rows.proofs.ChangedNumbers.{allowed_low}
 
 abbrev Slots : Type 0
 Slots = List (ℕ × FieldSlot Value)

@@ -4,7 +4,7 @@ use Rattle.prost_reflect_dynamic.proofs.Common.{ℕ, suc, Bool, true, false, Lis
 use Rattle.prost_reflect_wire.specs.declared.key.WireType.TheVariants as wires
 use Rattle.prost_reflect_wire.specs.declared.error.DecodeError.TheVariants as errors
 use Rattle.prost_reflect_wire.proofs.PlaceFaults.{plain_stands}
-use Rattle.prost_reflect_dynamic.proofs.RowKinds.{message_named}
+use Rattle.prost_reflect_rows.proofs.RowKinds.{message_named}
 
 kind_takes : (g : Bool) (U : ℕ) (w : WireType) → one_takes (nested_kind g U) w ≡ same_wire w (nested_wire g)
 kind_takes true U w = refl

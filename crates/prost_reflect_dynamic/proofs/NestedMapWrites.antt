@@ -7,9 +7,10 @@ use Rattle.prost_reflect_wire.specs.Content as contents
 use Rattle.prost_reflect_laws.proofs.MapWritten.{part_written, pair_front, map_kept_written}
 use Rattle.prost_reflect_tables.specs.declared.tables.TableKind.TheVariants as kinds
 use Rattle.prost_reflect_dynamic.specs.declared.value.Value as values
-use Rattle.prost_reflect_dynamic.proofs.MapRows.{shown_map, key_row}
+use Rattle.prost_reflect_rows.proofs.MapRows.{shown_map}
+use Rattle.prost_reflect_dynamic.proofs.MapRows.{key_row}
 use Rattle.prost_reflect_dynamic.proofs.NestedWrites.{kind_bytes_before}
-use Rattle.prost_reflect_dynamic.proofs.RepeatedRows.{map_message}
+use Rattle.prost_reflect_rows.proofs.RepeatedRows.{map_message}
 use Rattle.prost_reflect_dynamic.proofs.Views.{value_of_map}
 use Rattle.prost_reflect_dynamic.proofs.WrittenMaps.{KeyRow, part_written_as, part_takes}
 use Rattle.prost_reflect_dynamic.proofs.WrittenValues.{passing}

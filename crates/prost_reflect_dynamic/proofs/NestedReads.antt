@@ -5,7 +5,7 @@ use Rattle.prost_reflect_wire.specs.declared.key.WireType.TheVariants as wires
 use Rattle.prost_reflect_wire.specs.Content as contents
 use Rattle.prost_reflect_dynamic.specs.declared.value.Value as values
 use Rattle.prost_reflect_dynamic.proofs.NestedFaults.{behind_key}
-use Rattle.prost_reflect_dynamic.proofs.RowKinds.{message_named}
+use Rattle.prost_reflect_rows.proofs.RowKinds.{message_named}
 use Rattle.prost_reflect_dynamic.proofs.Views.{content_of_message, value_of_message}
 use Rattle.prost_reflect_dynamic.proofs.Merging.{differ_in, known_in}
 

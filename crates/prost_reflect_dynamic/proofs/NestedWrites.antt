@@ -6,7 +6,7 @@ use Rattle.prost_reflect_wire.specs.declared.key.WireType.TheVariants as wires
 use Rattle.prost_reflect_wire.specs.Content as contents
 use Rattle.prost_reflect_tables.specs.declared.tables.TableKind.TheVariants as kinds
 use Rattle.prost_reflect_dynamic.specs.declared.value.Value as values
-use Rattle.prost_reflect_dynamic.proofs.PlainKinds.{single_row, own_of}
+use Rattle.prost_reflect_rows.proofs.PlainKinds.{single_row, own_of}
 use Rattle.prost_reflect_dynamic.proofs.Views.{value_of_message}
 use Rattle.prost_reflect_dynamic.proofs.WrittenValues.{is_message_value, passing}
 

@@ -1,37 +1,14 @@
 -- Records of lists of enum numbers read into a message.
 use Rattle.std.specs.Prelude.{◌≡◌, ◌^◌, ◌∷◌, ◌++◌}
-use Rattle.prost_reflect_dynamic.proofs.Common.{ℕ, ℤ, pos, Bool, true, false, cond, not, List, [], map, filter, flat_map, Option, Some, None, refl, sym, ap, ◌∙◌, subst, unwrap_or, append_assoc, append-nil, true≢false, nat_lt, slice_get, list_all, lt-ltb, and_parts, and_from, WireType, DecodeError, Var, Payload, Flat, record_at, payload_valid, VarintFront, DelimitedFront, PlainFault, ScalarKind, EnumNumbers, Enum, Open, EnumNumber, low_i32, elem, is_undeclared, ScalarOf, Repeated, Field, known, field_of, numbers_differ, is_list, Content, ContentOf, Values, ScalarValue, ListValue, NoValues, values_from, ◌and_then◌, schema_of, type_of, entries_of, value_at, scalar_values, values_in, unpacked, WellStored, with_field_value, OfType, ElementFault, same_wire, Step, ElementsJoined, NumbersJoined, BodyJoined, FieldFault, ScalarFault, StandsBehindKey, declared_values, field_number, varint_plain, IsListed, and_nothing, TableKind, FieldRow, EnumRow, schema_kind, enum_kind, schema_field, is_repeated, PooledType, DynamicMessage, value_set, unknown_added, names_message, first_of, numbers_or_none, known_of, IsList, IsListOrNone, NumberList, BodyTaken, JoinsNumbers, number_element, is_stray_varint, strays_in, declared_in, varints_added, numbers_taken, pool_rows, is_stray_number, content_of, message_type_of}
+use Rattle.prost_reflect_dynamic.proofs.Common.{ℕ, ℤ, pos, Bool, true, false, cond, not, List, [], map, filter, flat_map, Option, Some, None, refl, sym, ap, ◌∙◌, subst, unwrap_or, append_assoc, append-nil, true≢false, nat_lt, list_all, lt-ltb, and_parts, and_from, WireType, DecodeError, Var, Payload, Flat, record_at, payload_valid, VarintFront, DelimitedFront, PlainFault, ScalarKind, EnumNumbers, Enum, Open, EnumNumber, low_i32, elem, is_undeclared, ScalarOf, Repeated, Field, known, field_of, numbers_differ, Content, ContentOf, Values, ScalarValue, ListValue, NoValues, values_from, ◌and_then◌, schema_of, type_of, entries_of, value_at, scalar_values, values_in, unpacked, WellStored, with_field_value, OfType, ElementFault, same_wire, Step, ElementsJoined, NumbersJoined, BodyJoined, FieldFault, ScalarFault, StandsBehindKey, declared_values, field_number, varint_plain, IsListed, and_nothing, TableKind, EnumRow, PooledType, DynamicMessage, value_set, unknown_added, IsList, IsListOrNone, NumberList, BodyTaken, JoinsNumbers, number_element, is_stray_varint, strays_in, declared_in, varints_added, numbers_taken, pool_rows, is_stray_number, content_of, message_type_of}
 use Rattle.prost_reflect_wire.specs.declared.key.WireType.TheVariants as wires
 use Rattle.prost_reflect_wire.specs.Content as contents
 use Rattle.prost_reflect_types.proofs.FieldsFound.{field_stands}
 use Rattle.prost_reflect_laws.proofs.PackedElements.{packed_refused, delimited_refused, single_refused}
 use Rattle.prost_reflect_laws.proofs.NumberSteps.{declared_joined, stray_joined, packed_step, number_step}
-use Rattle.prost_reflect_tables.specs.declared.tables.TableKind.TheVariants as kinds
-use Rattle.prost_reflect_dynamic.proofs.ListMerging.{listed_at, list_alone, values_or}
+use Rattle.prost_reflect_dynamic.proofs.ListMerging.{listed_at, values_or}
 use Rattle.prost_reflect_dynamic.proofs.Merging.{known_in, differ_in, own_fault}
-use Rattle.prost_reflect_dynamic.proofs.PlainKinds.{list_kind, scalars_row, stray_payload, enum_payloads}
-
--- THE FIELD
-
-enum_is : (o : Option EnumRow) → enum_kind o ≡ Enum (first_of o) (numbers_or_none o)
-enum_is None = refl
-enum_is (Some e) = refl
-
--- a repeated row of an enum is a list of its numbers
-pub number_list : (d : PooledType) (n : ℕ) (row : FieldRow) (E : ℕ) → field_of (known_of d) n ≡ Some (schema_field (pool_rows d.pool) row) → is_repeated row.cardinality ≡ true → row.kind ≡ kinds.Enum E → NumberList d n row.kind
-number_list d n row E found many is =
-    let form : (schema_field (pool_rows d.pool) row).form ≡ Repeated row.is_packed = scalars_row (pool_rows d.pool) row many (ap names_message is) in
-    record {
-      field = schema_field (pool_rows d.pool) row;
-      first = first_of (slice_get (pool_rows d.pool).enums E);
-      numbers = numbers_or_none (slice_get (pool_rows d.pool).enums E);
-      packed = row.is_packed;
-      found = found;
-      form = form;
-      kind_is = list_kind (pool_rows d.pool) row many (ap is_list form) ∙ ap (λ kind. schema_kind (pool_rows d.pool).enums kind row.is_group) is ∙ ap ScalarOf (enum_is (slice_get (pool_rows d.pool).enums E));
-      named = ap (λ kind. schema_kind (pool_rows d.pool).enums kind false) is ∙ ap ScalarOf (enum_is (slice_get (pool_rows d.pool).enums E));
-      alone = list_alone d n (schema_field (pool_rows d.pool) row) row.is_packed found form;
-    }
+use Rattle.prost_reflect_rows.proofs.PlainKinds.{stray_payload, enum_payloads}
 
 -- whether a number is a stray, as the tables and the definitions say it
 stray_is : (d : PooledType) (n : ℕ) (kind : TableKind) (value : ℕ) (list : NumberList d n kind) → is_undeclared (Enum list.first list.numbers) (Flat (Var value)) ≡ is_stray_number (pool_rows d.pool).enums kind (ScalarValue (EnumNumber (low_i32 value)))

@@ -4,7 +4,7 @@ use Rattle.prost_reflect_dynamic.proofs.Common.{ℕ, suc, Bool, true, List, [], 
 use Rattle.prost_reflect_tables.specs.CatalogRows.{ExtensionRow, MessageListsRow}
 use Rattle.prost_reflect_pool.specs.Pools.{pool_catalog}
 use Rattle.prost_reflect_pool.proofs.ExtensionPlaces.{FoundExtension, extension_found as place_found, extending_there}
-use Rattle.prost_reflect_dynamic.proofs.Described.{known_of_row}
+use Rattle.prost_reflect_rows.proofs.Described.{known_of_row}
 use Rattle.prost_reflect_dynamic.proofs.OwnFields.{and_ok}
 
 -- The row of an own extension is one of the message type's, which knows it by its number.

@@ -7,7 +7,7 @@ use Rattle.prost_reflect_fields.specs.Known.{is_listed}
 use Rattle.prost_reflect_tables.specs.Schema.{rows_of}
 use Rattle.prost_reflect_dynamic.specs.Named.{SameMessage}
 use Rattle.prost_reflect_dynamic.specs.NamedFields as named
-use Rattle.prost_reflect_dynamic.proofs.Described.{known_of_row, field_at_number}
+use Rattle.prost_reflect_rows.proofs.Described.{known_of_row, field_at_number}
 use Rattle.prost_reflect_dynamic.proofs.OwnRows.{fields_found}
 use Rattle.prost_reflect_fields.proofs.Siblings.{passes_found}
 

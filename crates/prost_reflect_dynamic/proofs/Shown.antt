@@ -18,7 +18,7 @@ use Rattle.prost_reflect_dynamic.specs.Access.{Shows, ShowsHeld, ShowsOr, IsDefa
 use Rattle.prost_reflect_dynamic.specs.View.{value_of, content_of, message_type_of, stored_in}
 use Rattle.prost_reflect_dynamic.specs.declared.message.DynamicMessage.{DynamicMessage}
 use Rattle.prost_reflect_dynamic.specs.declared.value.Value.{Value}
-use Rattle.prost_reflect_dynamic.proofs.Described.{found_checked}
+use Rattle.prost_reflect_rows.proofs.Described.{found_checked}
 use Rattle.prost_reflect_dynamic.proofs.Had.{kept_found}
 use Rattle.prost_reflect_dynamic.proofs.KeptSlots.{default_kept}
 

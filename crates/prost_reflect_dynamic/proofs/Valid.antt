@@ -1,20 +1,12 @@
 -- Which values a field takes, by its row.
 use Rattle.std.specs.Prelude.{◌≡◌, ◌&&◌, ◌∷◌}
-use Rattle.prost_reflect_dynamic.proofs.Common.{ℕ, suc, Bool, true, false, List, [], map, Option, Some, None, refl, ap, ap₂, sym, ◌∙◌, arith, true≢false, list_all, lt-ltb, and_from, are_bytes, Scalar, Kind, ValueType, FieldForm, MapFrom, ScalarValue, MessageValue, ListValue, MapValue, Values, NoValues, Item, Pairs, NoPairs, Pair, values_from, element_valid, elements_valid, kind_takes, pairs_valid, value_valid, Cardinality, TableKind, is_linked, is_repeated, FieldRow, EnumRow, MessageRow, TableRows, own_type, schema_kind, value_type_of, form_of, schema_field, map_parts, value_of, key_of, pairs_from, MapKey, Value}
-use lib.ListN.{get_or}
-use mir.Val.{Fits}
-use mir.Syntax.{w8}
+use Rattle.prost_reflect_dynamic.proofs.Common.{Bool, true, false, List, [], map, Option, Some, None, refl, ap, ap₂, sym, ◌∙◌, true≢false, list_all, Scalar, Kind, ValueType, FieldForm, MapFrom, ScalarValue, MessageValue, ListValue, MapValue, Values, NoValues, Item, Pairs, NoPairs, Pair, values_from, element_valid, elements_valid, kind_takes, pairs_valid, value_valid, Cardinality, TableKind, is_linked, is_repeated, FieldRow, EnumRow, MessageRow, TableRows, own_type, schema_kind, value_type_of, form_of, schema_field, map_parts, value_of, key_of, pairs_from, MapKey, Value}
 use Rattle.prost_reflect_wire.specs.Content as content
 use Rattle.prost_reflect_tables.specs.declared.tables.Cardinality.TheVariants.{Optional, Required, Repeated as RepeatedLabel}
 use Rattle.prost_reflect_tables.specs.declared.tables.TableKind.TheVariants.{Message}
 use Rattle.prost_reflect_dynamic.specs.Valid.{list_fits, map_fits, entries_fit, pair_fits}
-use Rattle.prost_reflect_dynamic.proofs.RowKinds.{no_map}
-use Rattle.prost_reflect_dynamic.proofs.MapRows.{shown_map}
-
--- what fits bytes
-pub bytes_fit : (bs : List ℕ) → ((i : ℕ) → Fits w8 (get_or bs i 0)) → are_bytes bs ≡ true
-bytes_fit [] h = refl
-bytes_fit (b ∷ bs) h = and_from _ _ (lt-ltb b 256 (omega (arith, h 0))) (bytes_fit bs (λ i. h (suc i)))
+use Rattle.prost_reflect_rows.proofs.RowKinds.{no_map}
+use Rattle.prost_reflect_rows.proofs.MapRows.{shown_map}
 
 -- LISTS AND MAPS
 

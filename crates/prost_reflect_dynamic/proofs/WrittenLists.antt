@@ -5,7 +5,7 @@ use Rattle.prost_reflect_wire.specs.declared.key.WireType.TheVariants as wires
 use Rattle.prost_reflect_wire.specs.Content as contents
 use Rattle.prost_reflect_laws.proofs.ListWritten.{list_written}
 use Rattle.prost_reflect_dynamic.specs.declared.value.Value as values
-use Rattle.prost_reflect_dynamic.proofs.PlainKinds.{SamePayloads, scalars_row, scalars_kind, plain_of, plain_payloads}
+use Rattle.prost_reflect_rows.proofs.PlainKinds.{SamePayloads, scalars_row, scalars_kind, plain_of, plain_payloads}
 use Rattle.prost_reflect_dynamic.proofs.Views.{value_of_list}
 use Rattle.prost_reflect_dynamic.proofs.WrittenValues.{passing}
 

@@ -4,7 +4,7 @@ use Rattle.prost_reflect_dynamic.proofs.Common.{ℕ, true, false, cond, List, []
 use Rattle.prost_reflect_wire.specs.declared.key.WireType.TheVariants as wires
 use Rattle.prost_reflect_wire.specs.Content as contents
 use Rattle.prost_reflect_laws.proofs.MapWritten.{part_bytes, pair_written, map_written}
-use Rattle.prost_reflect_dynamic.proofs.PlainKinds.{SamePayloads, plain_payloads}
+use Rattle.prost_reflect_rows.proofs.PlainKinds.{SamePayloads, plain_payloads}
 
 -- the row of an entry's key or value, and its type
 pub record PartRow (enums : List EnumRow) (row : FieldRow) (t : ValueType) (kind : ScalarKind) : Type 0 where

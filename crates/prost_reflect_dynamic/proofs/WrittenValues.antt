@@ -2,7 +2,7 @@
 use Rattle.std.specs.Prelude.{◌≡◌, ◌++◌}
 use Rattle.prost_reflect_dynamic.proofs.Common.{ℕ, Bool, true, false, cond, List, [], Option, Some, refl, sym, ap, ap₂, ◌∙◌, true≢false, and_parts, short_key, short_plain, Scalar, ScalarKind, kind_wire, scalar_valid, written, Kind, ScalarOf, MessageOf, GroupOf, ValueType, Singular, Field, field_of, is_message, passes, is_list, ScalarValue, MessageValue, ListValue, MapValue, is_default_of, value_valid, kind_takes, pairs_valid, value_bytes, scalar_written, FieldRow, EnumRow, TableRows, own_type, schema_field, is_repeated, PooledType, pool_rows, known_of, TakesScalar, scalar_record_bytes, kept_scalar_bytes}
 use Rattle.prost_reflect_wire.specs.Content as contents
-use Rattle.prost_reflect_dynamic.proofs.PlainKinds.{NamedKind, scalar_row, single_row, own_of, plain_of, plain_payloads}
+use Rattle.prost_reflect_rows.proofs.PlainKinds.{NamedKind, scalar_row, single_row, own_of, plain_of, plain_payloads}
 
 -- a field of one scalar
 pub record OneScalar (f : Field) : Type 0 where

@@ -17,7 +17,8 @@ use Rattle.prost_reflect_fields.specs.FieldSlots.{stored_at}
 use Rattle.prost_reflect_dynamic.specs.Named.{NamesEqual}
 use Rattle.prost_reflect_dynamic.specs.NamedField.{row_at}
 use Rattle.prost_reflect_dynamic.specs.NamedFields as named
-use Rattle.prost_reflect_dynamic.specs.NamedFields.{is_declared, declared_place}
+use Rattle.prost_reflect_dynamic.specs.NamedFields.{is_declared}
+use Rattle.prost_reflect_rows.specs.Paths.{declared_place}
 use Rattle.prost_reflect_dynamic.specs.RowLaws.{takes_by_row}
 use Rattle.prost_reflect_dynamic.specs.View.{value_of, content_of, message_type_of, stored_in, written_at}
 use Rattle.prost_reflect_dynamic.specs.declared.descriptor.message.MessageDescriptor.{MessageDescriptor}

@@ -3,8 +3,6 @@ use Rattle.std.specs.Prelude.{ℕ, Bool, true, ◌&&◌, nat_eq, List, Option, S
 use Rattle.prost_reflect_wire.specs.Content.{Content}
 use Rattle.prost_reflect_wire.specs.Schema.{Kind, ScalarOf, MessageOf, GroupOf, Field, known, field_of, passes}
 use Rattle.prost_reflect_wire.specs.Typing.{own_kind}
-use Rattle.prost_reflect_tables.specs.declared.tables.TableKind.{TableKind}
-use Rattle.prost_reflect_tables.specs.declared.tables.TableKind.TheVariants as kinds
 use Rattle.prost_reflect_tables.specs.Rows.{TableRows}
 use Rattle.prost_reflect_tables.specs.Shown.{schema_from}
 use Rattle.prost_reflect_tables.specs.Equality.{rows_eq}
@@ -16,11 +14,6 @@ abbrev pub kind_place : Kind → Option ℕ
 kind_place (ScalarOf kind) = None
 kind_place (MessageOf T) = Some T
 kind_place (GroupOf T) = Some T
-
--- The place of the one that a kind of the tables names.
-abbrev pub place_named : TableKind → Option ℕ
-place_named (kinds.Message T) = Some T
-place_named kind = None
 
 -- The kind of the messages of a field: those in a map are values of its entries; one that stands alone or in a list at a map field is of no kind.
 abbrev pub stored_kind : Option Field → StoredValue → Option Kind

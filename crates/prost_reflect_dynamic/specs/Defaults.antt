@@ -1,16 +1,14 @@
 -- What fields have where nothing is stored, and which values are that (the guide on field presence).
-use Rattle.std.specs.Prelude.{◌≡◌, ℕ, if◌then◌else◌, [], Option, Some, None, option_map, IsSomeAnd}
+use Rattle.std.specs.Prelude.{◌≡◌, ℕ, [], Option, Some, None, option_map, IsSomeAnd}
 use Rattle.std.specs.declared.alloc.Global.{Global}
 use Rattle.std.specs.declared.rc.Rc.{Rc}
 use Rattle.prost_reflect_wire.specs.Content as contents
 use Rattle.prost_reflect_wire.specs.Edit.{default_value}
-use Rattle.prost_reflect_tables.specs.declared.tables.TableKind.{TableKind}
-use Rattle.prost_reflect_tables.specs.declared.tables.TableKind.TheVariants as places
-use Rattle.prost_reflect_tables.specs.Linking.{is_repeated}
 use Rattle.prost_reflect_tables.specs.Rows.{FieldRow, TableRows}
 use Rattle.prost_reflect_tables.specs.Shown.{schema_from, schema_field}
 use Rattle.prost_reflect_pool.specs.SharedPools.{pool_rows, pool_contents}
 use Rattle.prost_reflect_pool.specs.declared.pool.LinkedPool.{LinkedPool}
+use Rattle.prost_reflect_rows.specs.RowKinds.{single_place}
 use Rattle.prost_reflect_dynamic.specs.NamedDefaults.{default_named}
 use Rattle.prost_reflect_dynamic.specs.NamedExtensions.{extension_row_named}
 use Rattle.prost_reflect_dynamic.specs.NamedField.{row_at}
@@ -50,14 +48,6 @@ IsEmptyOf pool T (Some m) = (pool_contents pool ≡ pool_contents (message_type_
 abbrev pub IsDefaultBy : Rc LinkedPool Global → Option ℕ → contents.Value → Value → Type 0
 IsDefaultBy pool (Some T) default v = IsEmptyOf pool T (message_in (out-Value v))
 IsDefaultBy pool None default v = value_of v ≡ default
-
-abbrev pub place_named : TableKind → Option ℕ
-place_named (places.Message T) = Some T
-place_named kind = None
-
--- The message type of a field of one message.
-abbrev pub single_place : FieldRow → Option ℕ
-single_place row = if is_repeated row.cardinality then None else place_named row.kind
 
 abbrev pub IsRowDefault : Rc LinkedPool Global → FieldRow → Value → Type 0
 IsRowDefault pool row v = IsDefaultBy pool (single_place row) (row_default (pool_rows pool) row) v

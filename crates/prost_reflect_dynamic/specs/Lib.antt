@@ -16,11 +16,9 @@ pub mod Lent
 pub mod Stored
 pub mod Same
 pub mod Scalars
-pub mod RowKinds
 pub mod Maps
 pub mod Numbers
 pub mod NestedMaps
-pub mod Targets
 pub mod Nested
 pub mod Encoding
 pub mod Encodables

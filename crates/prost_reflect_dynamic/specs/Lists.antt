@@ -4,12 +4,12 @@ use Rattle.std.specs.List.{AllByRecursion}
 use Rattle.prost_reflect_wire.specs.declared.key.WireType.{WireType}
 use Rattle.prost_reflect_wire.specs.declared.key.WireType.TheVariants as wires
 use Rattle.prost_reflect_wire.specs.declared.error.DecodeError.{DecodeError}
-use Rattle.prost_reflect_wire.specs.Record.{Len, Payload, short_key, short_plain}
-use Rattle.prost_reflect_wire.specs.Scalar.{ScalarKind, kind_wire, is_undeclared}
+use Rattle.prost_reflect_wire.specs.Record.{Len, short_key, short_plain}
+use Rattle.prost_reflect_wire.specs.Scalar.{ScalarKind, kind_wire}
 use Rattle.prost_reflect_wire.specs.Content as content
 use Rattle.prost_reflect_wire.specs.Content.{MessageValue, ListValue, NoValues, Item, values_from, ◌and_then◌}
 use Rattle.prost_reflect_wire.specs.Meaning.{values_in}
-use Rattle.prost_reflect_wire.specs.Schema.{ScalarOf, Repeated, Field, field_of}
+use Rattle.prost_reflect_wire.specs.Schema.{ScalarOf, Repeated, Field}
 use Rattle.prost_reflect_wire.specs.Fault.{ElementFault}
 use Rattle.prost_reflect_wire.specs.Decoding.{FieldFault, ElementsRead, packed_values}
 use Rattle.prost_reflect_tables.specs.declared.tables.TableKind.{TableKind}
@@ -17,7 +17,8 @@ use Rattle.prost_reflect_dynamic.specs.declared.value.Value.{Value}
 use Rattle.prost_reflect_wire.specs.Typing.{encodable}
 use Rattle.prost_reflect_dynamic.specs.Encoding.{nested_bytes}
 use Rattle.prost_reflect_dynamic.specs.View.{value_of}
-use Rattle.prost_reflect_dynamic.specs.Scalars.{plain_kind, TakesScalar, scalar_bytes, scalar_record_bytes}
+use Rattle.prost_reflect_dynamic.specs.Scalars.{plain_kind}
+use Rattle.prost_reflect_rows.specs.Scalars.{TakesScalar, scalar_bytes, scalar_record_bytes}
 
 -- The elements of a packed body were put behind others.
 pub record AddsPacked (kind : TableKind) (old new : List Value) (body : List ℕ) : Type 0 where
@@ -66,18 +67,6 @@ IsListOrNone (Some v) = IsList v
 -- The list with one more element; the first one, where nothing is there yet.
 abbrev pub with_element : Option content.Value → content.Value → content.Value
 with_element o v = ListValue (values_in o and_then Item v NoValues)
-
--- The number is that of a list of plain scalars, which the tables call by this kind; no number is a stray.
-pub record ListField (fields : List Field) (n : ℕ) (kind : TableKind) : Type 0 where
-  pub field : Field
-  pub scalar_kind : ScalarKind
-  pub packed : Bool
-  pub found : field_of fields n ≡ Some field
-  pub plain : plain_kind kind ≡ Some scalar_kind
-  pub form : field.form ≡ Repeated packed
-  pub kind_is : field.value_type.kind ≡ ScalarOf scalar_kind
-  pub alone : field.oneof ≡ None
-  pub whole : (p : Payload) → is_undeclared scalar_kind p ≡ false
 
 -- WRITING
 

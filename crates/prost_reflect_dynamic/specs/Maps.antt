@@ -5,35 +5,18 @@ use Rattle.prost_reflect_wire.specs.declared.key.WireType.TheVariants as wires
 use Rattle.prost_reflect_wire.specs.declared.error.DecodeError.{DecodeError}
 use Rattle.prost_reflect_wire.specs.Record.{Len, short_key, short_plain}
 use Rattle.prost_reflect_wire.specs.Scalar.{Scalar, ScalarKind, kind_default}
-use Rattle.prost_reflect_wire.specs.Schema.{Kind, ScalarOf, ValueType, MapFrom, Field, field_of}
+use Rattle.prost_reflect_wire.specs.Schema.{Kind, ScalarOf}
 use Rattle.prost_reflect_wire.specs.Content as content
 use Rattle.prost_reflect_wire.specs.Content.{ScalarValue, MapValue}
 use Rattle.prost_reflect_wire.specs.EntryReading.{ScalarEntryTo, StandsInEntry}
 use Rattle.prost_reflect_tables.specs.declared.tables.TableKind.{TableKind}
 use Rattle.prost_reflect_tables.specs.Rows.{FieldRow, EnumRow}
-use Rattle.prost_reflect_tables.specs.Shown.{schema_kind, schema_field}
+use Rattle.prost_reflect_tables.specs.Shown.{schema_kind}
 use Rattle.prost_reflect_dynamic.specs.declared.value.MapKey.{MapKey}
 use Rattle.prost_reflect_dynamic.specs.declared.value.Value.{Value}
-use Rattle.prost_reflect_pool.specs.declared.pooled_type.PooledType.{PooledType}
-use Rattle.prost_reflect_pool.specs.SharedPools.{pool_rows}
-use Rattle.prost_reflect_fields.specs.Known.{known_of}
-use Rattle.prost_reflect_pool.specs.MapParts.{map_parts}
-use Rattle.prost_reflect_dynamic.specs.RowKinds.{names_message}
-use Rattle.prost_reflect_dynamic.specs.Scalars.{plain_kind, TakesScalar, kept_scalar_bytes}
+use Rattle.prost_reflect_dynamic.specs.Scalars.{plain_kind}
+use Rattle.prost_reflect_rows.specs.Scalars.{TakesScalar, kept_scalar_bytes}
 use Rattle.prost_reflect_dynamic.specs.View.{key_of, value_of}
-
--- The number is that of a map of scalars, whose keys and values the tables call by these kinds.
-pub record ScalarMap (d : PooledType) (n : ℕ) (key value_kind : TableKind) : Type 0 where
-  pub field : Field
-  pub key_type : ValueType
-  pub key_scalar : ScalarKind
-  pub value_scalar : ScalarKind
-  pub found : field_of (known_of d) n ≡ Some field
-  pub form : field.form ≡ MapFrom key_type
-  pub key_plain : plain_kind key ≡ Some key_scalar
-  pub key_is : key_type.kind ≡ ScalarOf key_scalar
-  pub value_is : field.value_type.kind ≡ ScalarOf value_scalar
-  pub value_named : schema_kind (pool_rows d.pool).enums value_kind false ≡ ScalarOf value_scalar
 
 -- The value is zero, false or empty, by the plain kind.
 abbrev pub IsDefaultOf : TableKind → Value → Type 0
@@ -94,10 +77,3 @@ pairs_bytes n enums key value_row (e ∷ es) = entry_bytes n enums key value_row
 abbrev pub IsMap : content.Value → Type 0
 IsMap (MapValue ps) = Unit {0}
 IsMap v = ⊥
-
--- The number is that of a map of scalars, whose keys and values have these rows.
-pub record MapOfRows (d : PooledType) (n : ℕ) (key value_row : FieldRow) : Type 0 where
-  pub row : FieldRow
-  pub found : Some (schema_field (pool_rows d.pool) row) ≡ field_of (known_of d) n
-  pub parts : map_parts (pool_rows d.pool) row ≡ Some (key, value_row)
-  pub scalar : names_message value_row.kind ≡ false

@@ -1,9 +1,6 @@
 -- Bytes merged into a message (the encoding guide, "Last One Wins").
-use Rattle.std.specs.Prelude.{◌≡◌, ◌≤◌, ◌<◌, ◌^◌, ℕ, Bool, true, if◌then◌else◌, List, ◌++◌, length, Some}
-use Rattle.std.specs.List.{list_all}
-use Rattle.std.specs.BTreeSet.{BTreeSet}
-use Rattle.prost_reflect_wire.specs.Record.{Payload, Record, record_at, Spells, items, body_of, raw_levels}
-use Rattle.prost_reflect_wire.specs.Front.{FieldFront}
+use Rattle.std.specs.Prelude.{◌≡◌, ◌<◌, ◌^◌, ℕ, Bool, true, if◌then◌else◌, List, ◌++◌, length, Some}
+use Rattle.prost_reflect_wire.specs.Record.{Record, items}
 use Rattle.prost_reflect_wire.specs.Schema.{Schema}
 use Rattle.prost_reflect_wire.specs.Content.{Content, schema_of, type_of, entries_of, slot_at, ordered}
 use Rattle.prost_reflect_wire.specs.Grammar.{LEVEL_LIMIT, Accepts, allows}
@@ -37,15 +34,6 @@ pub record MergesMeaning (schema : Schema) (T : ℕ) (bytes : List ℕ) (old new
   pub further : new ≡ merged old (items accepts.records)
 
 -- WHAT IS CHANGED
-
--- A record of the number stands in front, and the rest behind it.
-pub record BeginsWith (n : ℕ) (bytes rest : List ℕ) : Type 0 where
-  pub payload : Payload
-  pub front : FieldFront LEVEL_LIMIT (record_at n payload) bytes rest
-
--- The set has the number of each record that the bytes spell, of records that nest within the limit.
-pub record HasNumbersOf (bytes : List ℕ) (numbers : BTreeSet ℕ) : Type 0 where
-  pub each : (rs : List Record) → Spells (body_of rs) bytes → raw_levels (body_of rs) ≤ LEVEL_LIMIT → list_all (λ r. has numbers r.number) rs ≡ true
 
 -- At the numbers that pass what another content of the type has, and elsewhere what was there.
 pub record IsJoined (test : ℕ → Bool) (old other new : Content) : Type 0 where

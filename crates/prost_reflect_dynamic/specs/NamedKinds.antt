@@ -6,10 +6,10 @@ use Rattle.prost_reflect_wire.specs.declared.key.WireType.{WireType}
 use Rattle.prost_reflect_wire.specs.declared.key.WireType.TheVariants.{Varint, SixtyFourBit, LengthDelimited, ThirtyTwoBit}
 use Rattle.prost_reflect_tables.specs.Rows.{EnumRow, EnumValueRow}
 use Rattle.prost_reflect_tables.specs.Shown.{schema_kind}
-use Rattle.prost_reflect_pool.specs.Pools.{pool_rows}
 use Rattle.prost_reflect_pool.specs.declared.pool.LinkedPool.{LinkedPool}
 use Rattle.prost_reflect_tables.specs.declared.tables.TableKind.{TableKind}
 use Rattle.prost_reflect_tables.specs.declared.tables.TableKind.TheVariants as places
+use Rattle.prost_reflect_rows.specs.KindNames.{enums_in}
 use Rattle.prost_reflect_dynamic.specs.NamedLists.{values_of}
 use Rattle.prost_reflect_dynamic.specs.declared.descriptor.pool.DescriptorPool.{DescriptorPool}
 use Rattle.prost_reflect_dynamic.specs.declared.descriptor.message.MessageDescriptor.{MessageDescriptor}
@@ -48,11 +48,6 @@ abbrev pub pool_of : Kind → Option LinkedPool
 pool_of (Message message) = Some message.pool.inner.value
 pool_of (Enum e) = Some e.pool.inner.value
 pool_of kind = None
-
--- The enums of a pool; none where there is none.
-abbrev pub enums_in : Option LinkedPool → List EnumRow
-enums_in None = []
-enums_in (Some pool) = (pool_rows pool).enums
 
 -- The enums of the pool of the type that the kind names.
 abbrev pub enums_named : Kind → List EnumRow

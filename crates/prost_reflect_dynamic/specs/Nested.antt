@@ -1,22 +1,17 @@
 -- Reading what stands behind the key of a message or of a group. For private contracts alone.
-use Rattle.std.specs.Prelude.{◌≡◌, ◌≢◌, ℕ, suc, Bool, true, false, if◌then◌else◌, List, Option, Some}
+use Rattle.std.specs.Prelude.{◌≡◌, ◌≢◌, ℕ, suc, Bool, true, false, List, Option, Some}
 use Rattle.prost_reflect_wire.specs.declared.error.DecodeError.{DecodeError}
-use Rattle.prost_reflect_wire.specs.declared.error.DecodeError.TheVariants as errors
 use Rattle.prost_reflect_wire.specs.declared.key.WireType.{WireType}
 use Rattle.prost_reflect_wire.specs.declared.key.WireType.TheVariants as wires
 use Rattle.prost_reflect_wire.specs.Content.{Content, Value, MessageValue, schema_of, type_of}
 use Rattle.prost_reflect_wire.specs.Schema.{Kind, Field, Schema, is_map}
 use Rattle.prost_reflect_wire.specs.Typing.{WellStored}
-use Rattle.prost_reflect_wire.specs.Fault.{KeyFront, Place, Stands, field_at, same_wire}
+use Rattle.prost_reflect_wire.specs.Fault.{KeyFront, Place, Stands, field_at}
 use Rattle.prost_reflect_wire.specs.Decoding.{GroupProgress}
 use Rattle.prost_reflect_wire.specs.MessageEntries.{NestedValueRead}
-use Rattle.prost_reflect_dynamic.specs.Targets.{nested_kind}
+use Rattle.prost_reflect_rows.specs.FieldKinds.{nested_kind}
 use Rattle.prost_reflect_dynamic.specs.View.{content_of}
 use Rattle.prost_reflect_dynamic.specs.declared.message.DynamicMessage.{DynamicMessage}
-
--- The wire type of the key: a group's records stand up to an end key, those of a message behind their length.
-abbrev pub nested_wire : (is_group : Bool) → WireType
-nested_wire g = if g then wires.StartGroup else wires.LengthDelimited
 
 -- The records that stand there were read into the old content, with so many levels left inside.
 abbrev pub ReadInside : (is_group : Bool) → (k n : ℕ) → WireType → Content → Content → (bytes rest : List ℕ) → Type 0
@@ -28,13 +23,6 @@ pub record NestedRead (is_group : Bool) (levels n : ℕ) (w : WireType) (old new
   pub inside : ℕ
   pub left : levels ≡ suc inside
   pub read : ReadInside is_group inside n w old new bytes rest
-
--- Why no such records are looked for: an end key, another wire type, or no level is left.
-abbrev pub NestedFault : (is_group : Bool) → WireType → (levels : ℕ) → DecodeError → Type 0
-NestedFault g w levels errors.EndGroup = w ≡ wires.EndGroup
-NestedFault g w levels errors.WireType = (w ≢ wires.EndGroup) × (same_wire w (nested_wire g) ≡ false)
-NestedFault g w levels errors.Depth = (w ≡ nested_wire g) × (levels ≡ 0)
-NestedFault g w levels e = ⊥
 
 -- Wherever such a key stands in front of the bytes as that of a field of the kind, which is no map, and ends no group, the fault stands there.
 abbrev pub StandsBehindNested : Schema → (levels n : ℕ) → Kind → WireType → DecodeError → List ℕ → Type 0

@@ -1,40 +1,23 @@
 -- Maps whose values are messages: which numbers are those of such a map, what is read of an entry, and what is written. For private contracts alone.
-use Rattle.std.specs.Prelude.{◌≡◌, ℕ, ◌<◌, true, false, List, ◌++◌, flat_map, length, Some}
+use Rattle.std.specs.Prelude.{◌≡◌, ℕ, false, List, ◌++◌, flat_map, Some}
 use Rattle.std.specs.List.{AllByRecursion}
 use Rattle.prost_reflect_wire.specs.declared.error.DecodeError.{DecodeError}
 use Rattle.prost_reflect_wire.specs.declared.key.WireType.TheVariants as wires
 use Rattle.prost_reflect_wire.specs.Record.{Len, short_key, short_plain}
 use Rattle.prost_reflect_wire.specs.Scalar.{Scalar, ScalarKind}
-use Rattle.prost_reflect_wire.specs.Schema.{ScalarOf, MessageOf, ValueType, MapFrom, Field, Schema, field_of}
+use Rattle.prost_reflect_wire.specs.Schema.{Schema}
 use Rattle.prost_reflect_wire.specs.Content as content
 use Rattle.prost_reflect_wire.specs.Content.{Content, ScalarValue, schema_of, type_of}
 use Rattle.prost_reflect_wire.specs.MessageEntries.{NestedEntryTo, StandsInNestedEntry}
 use Rattle.prost_reflect_tables.specs.declared.tables.TableKind.{TableKind}
 use Rattle.prost_reflect_tables.specs.Rows.{FieldRow, EnumRow}
-use Rattle.prost_reflect_tables.specs.Shown.{schema_field}
 use Rattle.prost_reflect_dynamic.specs.declared.value.MapKey.{MapKey}
 use Rattle.prost_reflect_dynamic.specs.declared.value.Value.{Value}
-use Rattle.prost_reflect_pool.specs.declared.pooled_type.PooledType.{PooledType}
-use Rattle.prost_reflect_pool.specs.SharedPools.{pool_rows}
-use Rattle.prost_reflect_fields.specs.Known.{known_of}
-use Rattle.prost_reflect_dynamic.specs.RowKinds.{names_message}
 use Rattle.prost_reflect_dynamic.specs.Lists.{ElementWritable, element_bytes}
-use Rattle.prost_reflect_pool.specs.MapParts.{map_parts}
 use Rattle.prost_reflect_dynamic.specs.Maps.{key_bytes}
-use Rattle.prost_reflect_dynamic.specs.Scalars.{plain_kind, TakesScalar}
+use Rattle.prost_reflect_dynamic.specs.Scalars.{plain_kind}
+use Rattle.prost_reflect_rows.specs.Scalars.{TakesScalar}
 use Rattle.prost_reflect_dynamic.specs.View.{key_of, value_of}
-
--- The number is that of a map to messages of the type at a place, whose keys the tables call by this kind.
-pub record NestedMap (d : PooledType) (n : ℕ) (key : TableKind) (T : ℕ) : Type 0 where
-  pub field : Field
-  pub key_type : ValueType
-  pub key_scalar : ScalarKind
-  pub found : field_of (known_of d) n ≡ Some field
-  pub form : field.form ≡ MapFrom key_type
-  pub key_plain : plain_kind key ≡ Some key_scalar
-  pub key_is : key_type.kind ≡ ScalarOf key_scalar
-  pub value_is : field.value_type.kind ≡ MessageOf T
-  pub in_range : T < length (pool_rows d.pool).messages
 
 -- The bytes before the rest are records of an entry, which have this key; those of its value made the new content of the old one, which is empty, with so many levels left inside.
 pub record ReadsNestedEntry (levels : ℕ) (key : TableKind) (k : Value) (old new : Content) (bytes rest : List ℕ) : Type 0 where
@@ -63,10 +46,3 @@ nested_entry_bytes n enums key k v = short_key n wires.LengthDelimited ++ short_
 -- The records of entries, one behind another.
 abbrev pub nested_pairs_bytes : ℕ → List EnumRow → FieldRow → List (MapKey × Value) → List ℕ
 nested_pairs_bytes n enums key es = flat_map (λ e. nested_entry_bytes n enums key (key_of e.0) (value_of e.1)) es
-
--- The number is that of a map of messages, whose keys and values have these rows.
-pub record NestedMapOfRows (d : PooledType) (n : ℕ) (key value_row : FieldRow) : Type 0 where
-  pub row : FieldRow
-  pub found : Some (schema_field (pool_rows d.pool) row) ≡ field_of (known_of d) n
-  pub parts : map_parts (pool_rows d.pool) row ≡ Some (key, value_row)
-  pub message : names_message value_row.kind ≡ true

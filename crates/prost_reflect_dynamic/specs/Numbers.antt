@@ -1,32 +1,15 @@
 -- Lists of enum numbers: the fields that have them, and what reading their records makes of a message's content. For private contracts alone.
-use Rattle.std.specs.Prelude.{◌≡◌, ◌^◌, ℕ, ℤ, pos, Bool, true, false, not, nat_lt, List, [], ◌∷◌, ◌++◌, map, Some, None}
+use Rattle.std.specs.Prelude.{◌≡◌, ◌^◌, ℕ, pos, Bool, true, not, nat_lt, List, [], ◌∷◌, ◌++◌, map, Some}
 use Rattle.std.specs.List.{filter, list_all}
 use Rattle.prost_reflect_wire.specs.Record.{Flat, Var, record_at}
-use Rattle.prost_reflect_wire.specs.Scalar.{EnumNumbers, Enum, EnumNumber, Open, low_i32}
-use Rattle.prost_reflect_wire.specs.Schema.{ScalarOf, Repeated, Field, field_of}
+use Rattle.prost_reflect_wire.specs.Scalar.{Enum, EnumNumber, Open, low_i32}
 use Rattle.prost_reflect_wire.specs.Content.{Content, Value, ScalarValue, ListValue, ◌and_then◌, values_from, entries_of, value_at}
 use Rattle.prost_reflect_wire.specs.Grammar.{unpacked}
 use Rattle.prost_reflect_wire.specs.Meaning.{values_in}
 use Rattle.prost_reflect_tables.specs.declared.tables.TableKind.{TableKind}
 use Rattle.prost_reflect_tables.specs.Rows.{EnumRow}
-use Rattle.prost_reflect_tables.specs.Shown.{schema_kind}
-use Rattle.prost_reflect_pool.specs.declared.pooled_type.PooledType.{PooledType}
 use Rattle.prost_reflect_dynamic.specs.Contents.{value_set, unknown_added}
-use Rattle.prost_reflect_fields.specs.Known.{known_of}
-use Rattle.prost_reflect_pool.specs.SharedPools.{pool_rows}
-use Rattle.prost_reflect_dynamic.specs.Scalars.{is_stray_number}
-
--- The number is that of a list of enum numbers, which the tables call by this kind.
-pub record NumberList (d : PooledType) (n : ℕ) (kind : TableKind) : Type 0 where
-  pub field : Field
-  pub first : ℤ
-  pub numbers : EnumNumbers
-  pub packed : Bool
-  pub found : field_of (known_of d) n ≡ Some field
-  pub form : field.form ≡ Repeated packed
-  pub kind_is : field.value_type.kind ≡ ScalarOf (Enum first numbers)
-  pub named : schema_kind (pool_rows d.pool).enums kind false ≡ ScalarOf (Enum first numbers)
-  pub alone : field.oneof ≡ None
+use Rattle.prost_reflect_rows.specs.Scalars.{is_stray_number}
 
 -- What the number of a varint is as an element.
 abbrev pub number_element : ℕ → Value

@@ -1,5 +1,5 @@
 -- The options of definitions (descriptor.proto, "Options"): the bytes that a definition's record stores, the message type that they are read by, and what reading them answers.
-use Rattle.std.specs.Prelude.{◌≡◌, ◌≢◌, ℕ, true, List, [], Option, Some, None, Result, Ok, Err, Vec, codes, ⊤}
+use Rattle.std.specs.Prelude.{◌≡◌, ◌≢◌, ℕ, true, List, Option, Some, None, Result, Ok, Err, codes, ⊤}
 use Rattle.std.specs.declared.alloc.Global.{Global}
 use Rattle.std.specs.declared.rc.Rc.{Rc}
 use Rattle.prost_reflect_types.specs.declared.DescriptorProto.TheViews.{out-DescriptorProto}
@@ -13,6 +13,7 @@ use Rattle.prost_reflect_tables.specs.Shown.{schema_from}
 use Rattle.prost_reflect_pool.specs.RecordPaths.{AnyRecord, FileRecord, MessageRecord, FieldRecord, OneofRecord, EnumRecord, ValueRecord, ServiceRecord, MethodRecord}
 use Rattle.prost_reflect_pool.specs.SharedPools.{pool_rows}
 use Rattle.prost_reflect_pool.specs.declared.pool.LinkedPool.{LinkedPool}
+use Rattle.prost_reflect_rows.specs.Options.{bytes_or_none}
 use Rattle.prost_reflect_dynamic.specs.DeepTypes.{all_typed}
 use Rattle.prost_reflect_dynamic.specs.ReadBack.{IsFaulty}
 use Rattle.prost_reflect_dynamic.specs.Stored.{message_stored}
@@ -22,11 +23,6 @@ use Rattle.prost_reflect_dynamic.specs.declared.descriptor.options.OptionsError.
 use Rattle.prost_reflect_dynamic.specs.declared.message.DynamicMessage.{DynamicMessage}
 
 -- WHAT A RECORD STORES
-
--- Where nothing is stored there are no bytes.
-abbrev pub bytes_or_none : Option (Vec ℕ Global) → List ℕ
-bytes_or_none None = []
-bytes_or_none (Some bytes) = bytes.items
 
 abbrev pub option_bytes : AnyRecord → List ℕ
 option_bytes (FileRecord f) = bytes_or_none f.options

@@ -6,7 +6,7 @@ use Rattle.prost_reflect_dynamic.specs.Access.{takes, takes_at}
 use Rattle.prost_reflect_dynamic.specs.Copies.{SameStored}
 use Rattle.prost_reflect_dynamic.specs.Named.{NamesSame}
 use Rattle.prost_reflect_dynamic.specs.NamedField.{SameField}
-use Rattle.prost_reflect_dynamic.specs.NamedFields.{declared_place}
+use Rattle.prost_reflect_rows.specs.Paths.{declared_place}
 use Rattle.prost_reflect_dynamic.specs.declared.descriptor.field.FieldDescriptor.{FieldDescriptor}
 use Rattle.prost_reflect_dynamic.specs.declared.message.setting.SetFieldError.{SetFieldError}
 use Rattle.prost_reflect_dynamic.specs.declared.message.setting.SetFieldError.TheVariants.{NotFound, InvalidType, OutOfMemory}

@@ -9,7 +9,6 @@ mod extension;
 mod field;
 mod file;
 mod files;
-pub(crate) mod forms;
 mod iter;
 pub(crate) mod kind;
 pub(crate) mod laws;

@@ -12,7 +12,6 @@ ghost use Rattle.prost_reflect_dynamic.specs.Edits.{Removes, Sets, StaysBeside};
 ghost use Rattle.prost_reflect_dynamic.specs.contracts.message.DynamicMessage.{the_row};
 ghost use Rattle.prost_reflect_dynamic.specs.contracts.value.Value as value;
 ghost use Rattle.prost_reflect_pool.specs.MessageTypes.{schema_at, type_at, SameMessage};
-ghost use Rattle.prost_reflect_pool.specs.SharedPools.{pool_contents};
 ghost use Rattle.prost_reflect_maps.specs.Items.{IsAscending};
 ghost use Rattle.prost_reflect_maps.specs.ItemsLeft.{items_left};
 ghost use Rattle.prost_reflect_fields.specs.Known.{known_of, is_known, keeps_unknown, oneof_of};
@@ -58,6 +57,7 @@ use prost_reflect_fields::field_set::FieldSet;
 use prost_reflect_fields::slot::FieldSlot;
 use prost_reflect_maps::sorted_map::Items;
 use prost_reflect_pool::{LinkedPool, PooledType};
+use prost_reflect_rows::types::stands_at;
 use prost_reflect_wire::UnknownField;
 pub use setting::SetFieldError;
 use std::alloc::{AllocError, Global};
@@ -277,11 +277,4 @@ impl DynamicMessage {
     {
         self.fields.get_mut_or(number, default)
     }
-}
-
-/// Whether a message type is the one at a place of the pool, or of a pool whose files hold the same.
-fn stands_at(message_type: &PooledType, pool: &Rc<LinkedPool>, place: usize) -> bool
-    ensures { IsTrue result ↔ ((pool_contents pool.now ≡ pool_contents message_type.now.pool) × (place ≡ message_type.now.index)) }
-{
-    place == message_type.index() && *pool == *message_type.pool()
 }

@@ -11,9 +11,9 @@ use Rattle.prost_reflect_tables.specs.Shown.{schema_from, schema_field}
 use Rattle.prost_reflect_tables.specs.WrittenDefaults.{field_default}
 use Rattle.prost_reflect.specs.Edits.{value_refusal}
 use Rattle.prost_reflect.specs.Edits as edits
-use Rattle.prost_reflect_dynamic.specs.Paths.{row_led}
+use Rattle.prost_reflect_rows.specs.Paths.{row_led}
 use Rattle.prost_reflect.specs.declared.relaying.edit.RelayWithError.TheVariants.{InvalidType, HoldsMessage}
-use Rattle.prost_reflect_dynamic.proofs.Paths.{row_shown}
+use Rattle.prost_reflect_rows.proofs.PathPlaces.{row_shown}
 use Rattle.protorelay_commands.specs.Editing.{path_spelled, values_in, text_value, IsChange}
 
 -- the row of the field, and its value

@@ -21,7 +21,7 @@ use Rattle.prost_reflect_pool.specs.Pools.{pool_rows}
 use Rattle.prost_reflect_pool.specs.declared.pool.LinkedPool.{LinkedPool}
 use Rattle.prost_reflect.specs.Edits.{EditPassesLength, PassesEdit}
 use Rattle.prost_reflect.specs.Edits as edits
-use Rattle.prost_reflect_dynamic.specs.Paths.{row_led}
+use Rattle.prost_reflect_rows.specs.Paths.{row_led}
 use Rattle.prost_reflect.specs.declared.relaying.edit.RelayWithError.{RelayWithError}
 use Rattle.prost_reflect.specs.declared.relaying.edit.RelayWithError.TheVariants as relays
 use Rattle.protorelay_commands.specs.Sets.{IsPoolOfSet}

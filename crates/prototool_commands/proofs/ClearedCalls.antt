@@ -36,7 +36,7 @@ use Rattle.prost_reflect_dynamic.specs.declared.descriptor.message.MessageDescri
 use Rattle.prost_reflect_pool.specs.Lookups.{extension_where}
 use Rattle.prost_reflect_dynamic.specs.contracts.value.MapKeyOrd.TheImpl.Laws as ord_laws
 use Rattle.prost_reflect_dynamic.proofs.Copied.{insert_last, keys_appended}
-use Rattle.prost_reflect_dynamic.proofs.Described.{field_at_number}
+use Rattle.prost_reflect_rows.proofs.Described.{field_at_number}
 use Rattle.prost_reflect_dynamic.proofs.ListedNumbers.{extension_missed, extension_own}
 use Rattle.prost_reflect_dynamic.proofs.Merging.{known_in, valid_in}
 use Rattle.prost_reflect_dynamic.proofs.Views.{value_of_map}

@@ -10,11 +10,12 @@ use Rattle.prost_reflect_pool.specs.Listed.{extension_row_at}
 use Rattle.prost_reflect_pool.specs.Lookups.{named_field, extension_where}
 use Rattle.prost_reflect_pool.specs.Pools.{pool_rows}
 use Rattle.prost_reflect_pool.specs.declared.pool.LinkedPool.{LinkedPool}
-use Rattle.prost_reflect_dynamic.specs.Defaults.{place_named}
+use Rattle.prost_reflect_rows.specs.RowKinds.{place_named}
 use Rattle.prost_reflect_dynamic.specs.Named.{SameMessage, message_row_named}
 use Rattle.prost_reflect_dynamic.specs.NamedExtensions.{Extends, extension_row_named}
 use Rattle.prost_reflect_dynamic.specs.NamedField.{row_at}
-use Rattle.prost_reflect_dynamic.specs.NamedFields.{descriptor_fields, declared_place}
+use Rattle.prost_reflect_dynamic.specs.NamedFields.{descriptor_fields}
+use Rattle.prost_reflect_rows.specs.Paths.{declared_place}
 use Rattle.prost_reflect_dynamic.specs.NamedKinds.{table_kind, IsAmong}
 use Rattle.prost_reflect_dynamic.specs.declared.descriptor.extension.ExtensionDescriptor.{ExtensionDescriptor}
 use Rattle.prost_reflect_dynamic.specs.declared.descriptor.field.FieldDescriptor.{FieldDescriptor}

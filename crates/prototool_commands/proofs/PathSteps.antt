@@ -6,7 +6,7 @@ use Rattle.prost_reflect_wire.specs.Varint.{◌>>=◌}
 use Rattle.prost_reflect_tables.specs.Rows.{FieldRow}
 use Rattle.prost_reflect_pool.specs.Pools.{pool_rows}
 use Rattle.prost_reflect_pool.specs.declared.pool.LinkedPool.{LinkedPool}
-use Rattle.prost_reflect_dynamic.specs.Paths.{PATH_LIMIT}
+use Rattle.prost_reflect_rows.specs.Paths.{PATH_LIMIT}
 use Rattle.prost_reflect_dynamic.specs.declared.descriptor.message.MessageDescriptor.{MessageDescriptor}
 use Rattle.prototool_commands.specs.Naming.{PathName, AreClear, joined, written, row_named, kind_inside, numbers_named, BeginsWith, AreNumbersOf, IsFoundOf, IsFoundIn}
 use Rattle.prototool_commands.specs.declared.redact.path.Found.{Found}

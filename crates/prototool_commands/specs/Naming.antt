@@ -12,10 +12,9 @@ use Rattle.prost_reflect_pool.specs.Listed.{extension_row_at}
 use Rattle.prost_reflect_pool.specs.Lookups.{named_field, extension_where}
 use Rattle.prost_reflect_pool.specs.Pools.{pool_rows}
 use Rattle.prost_reflect_pool.specs.declared.pool.LinkedPool.{LinkedPool}
-use Rattle.prost_reflect_dynamic.specs.Defaults.{place_named}
-use Rattle.prost_reflect_dynamic.specs.NamedFields.{declared_place}
+use Rattle.prost_reflect_rows.specs.RowKinds.{place_named}
+use Rattle.prost_reflect_rows.specs.Paths.{declared_place, PATH_LIMIT}
 use Rattle.prost_reflect_dynamic.specs.NamedKinds.{table_kind, IsAmong}
-use Rattle.prost_reflect_dynamic.specs.Paths.{PATH_LIMIT}
 use Rattle.prost_reflect_dynamic.specs.declared.descriptor.kind.Kind.{Kind}
 use Rattle.prost_reflect_dynamic.specs.declared.descriptor.message.MessageDescriptor.{MessageDescriptor}
 use Rattle.prost_reflect_dynamic.specs.declared.descriptor.pool.DescriptorPool.{DescriptorPool}

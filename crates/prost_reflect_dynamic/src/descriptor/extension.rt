@@ -3,7 +3,6 @@
 ghost use Rattle.std.specs.Prelude.{◌≡◌, ◌<◌, IfOk, IfSome, IsOk, None, length, option_map};
 ghost use Rattle.prost_reflect_pool.specs.SharedPools.{pool_catalog};
 
-use crate::descriptor::forms::{is_list, is_map};
 use crate::descriptor::message::message_at;
 use crate::descriptor::options::{OptionsError, options_by};
 use crate::descriptor::{DescriptorPool, FileDescriptor, Kind, MessageDescriptor, Placed};
@@ -11,6 +10,7 @@ use crate::message::DynamicMessage;
 use crate::value::Value;
 use crate::value::defaults::default_value;
 use prost_reflect_pool::PooledType;
+use prost_reflect_rows::forms::{is_list, is_map};
 use prost_reflect_tables::{Cardinality, FieldTable, is_packable, text_or_empty};
 use prost_reflect_types::{FieldDescriptorProto, FileDescriptorProto};
 use std::alloc::{AllocError, Global};

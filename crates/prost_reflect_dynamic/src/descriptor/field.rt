@@ -3,7 +3,6 @@
 ghost use Rattle.std.specs.Prelude.{◌≡◌, IsTrue};
 ghost use Rattle.prost_reflect_dynamic.specs.NamedFields.{descriptor_fields, is_declared_at};
 
-use crate::descriptor::forms::{is_list, is_map};
 use crate::descriptor::options::{OptionsError, options_by};
 use crate::descriptor::{
     DescriptorPool, FileDescriptor, Kind, MessageDescriptor, OneofDescriptor, Placed,
@@ -11,6 +10,7 @@ use crate::descriptor::{
 use crate::message::DynamicMessage;
 use crate::value::Value;
 use crate::value::defaults::default_value;
+use prost_reflect_rows::forms::{is_list, is_map};
 use prost_reflect_tables::{Cardinality, FieldTable, is_packable};
 use prost_reflect_types::FieldDescriptorProto;
 use std::alloc::{AllocError, Global};

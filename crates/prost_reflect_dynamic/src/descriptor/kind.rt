@@ -1,16 +1,11 @@
 //! The types of fields.
 
-ghost use Rattle.std.specs.Prelude.{◌≡◌, option_map, slice_get};
-ghost use Rattle.std.specs.Option.{option_copied};
-ghost use Rattle.prost_reflect_tables.specs.Rows.{enum_row, message_row};
-ghost use Rattle.prost_reflect_dynamic.specs.KindNames.{kind_name, messages_in};
-ghost use Rattle.prost_reflect_dynamic.specs.NamedKinds.{enums_in};
-
 use crate::descriptor::{DescriptorPool, EnumDescriptor, MessageDescriptor};
 use crate::message::DynamicMessage;
 use crate::value::Value;
 use prost_reflect_pool::LinkedPool;
-use prost_reflect_tables::{EnumTable, MessageTable, ScalarRef, TableKind};
+use prost_reflect_rows::kinds::kind_name;
+use prost_reflect_tables::{ScalarRef, TableKind};
 use prost_reflect_wire::WireType;
 use std::alloc::{AllocError, Global};
 use std::fmt;
@@ -258,50 +253,4 @@ impl Kind {
             _ => ScalarRef::zero(self.to_table()),
         }
     }
-}
-
-/// The name of a kind of the tables (the language guide, "Scalar Value Types"); that of a message type or an enum of the pool
-/// is its full name, and is empty where there is none.
-pub(crate) fn kind_name(pool: Option<&LinkedPool>, kind: TableKind) -> &str
-    ensures { result.now ≡ kind_name (messages_in (option_copied pool.entry)) (enums_in (option_copied pool.entry)) kind }
-{
-    match kind {
-        TableKind::Double => "double",
-        TableKind::Float => "float",
-        TableKind::Int32 => "int32",
-        TableKind::Int64 => "int64",
-        TableKind::Uint32 => "uint32",
-        TableKind::Uint64 => "uint64",
-        TableKind::Sint32 => "sint32",
-        TableKind::Sint64 => "sint64",
-        TableKind::Fixed32 => "fixed32",
-        TableKind::Fixed64 => "fixed64",
-        TableKind::Sfixed32 => "sfixed32",
-        TableKind::Sfixed64 => "sfixed64",
-        TableKind::Bool => "bool",
-        TableKind::String => "string",
-        TableKind::Bytes => "bytes",
-        TableKind::Message(place) => match message_at(pool, place) {
-            Some(message) => message.id.full_name(),
-            None => "",
-        },
-        TableKind::Enum(place) => match enum_at(pool, place) {
-            Some(found) => found.id.full_name(),
-            None => "",
-        },
-    }
-}
-
-/// The message type at a place of the pool, or none where none stands there.
-fn message_at(pool: Option<&LinkedPool>, place: usize) -> Option<&MessageTable>
-    ensures { option_map (λ m. message_row m.now) result ≡ slice_get (messages_in (option_copied pool.entry)) place }
-{
-    pool?.tables().messages.get(place)
-}
-
-/// The enum at a place of the pool, or none where none stands there.
-fn enum_at(pool: Option<&LinkedPool>, place: usize) -> Option<&EnumTable>
-    ensures { option_map (λ e. enum_row e.now) result ≡ slice_get (enums_in (option_copied pool.entry)) place }
-{
-    pool?.tables().enums.get(place)
 }

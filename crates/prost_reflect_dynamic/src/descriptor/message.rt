@@ -5,13 +5,13 @@ ghost use Rattle.prost_reflect_pool.specs.SharedPools.{pool_rows};
 
 use crate::descriptor::extension::extension_at;
 use crate::descriptor::options::{OptionsError, options_by};
-use crate::descriptor::path::declared_place;
 use crate::descriptor::{
     DescriptorPool, Descriptors, EnumDescriptor, ExtensionDescriptor, ExtensionRanges,
     FieldDescriptor, FileDescriptor, OneofDescriptor, Placed, ReservedNames, ReservedRanges,
 };
 use crate::message::DynamicMessage;
 use prost_reflect_pool::PooledType;
+use prost_reflect_rows::paths::declared_place;
 use prost_reflect_tables::{FieldTable, MessageLists, MessageTable, text_or_empty};
 use prost_reflect_types::{DescriptorProto, FileDescriptorProto};
 use prost_reflect_walks::Places;
@@ -72,7 +72,8 @@ impl MessageDescriptor {
     ghost use Rattle.prost_reflect_tables.specs.Rows.{field_row, message_row};
     ghost use Rattle.prost_reflect_dynamic.specs.Named.{IsNamed, NamesEqual, NamesSame, SameMessage, message_row_named};
     ghost use Rattle.prost_reflect_dynamic.specs.NamedExtensions.{Extends};
-    ghost use Rattle.prost_reflect_dynamic.specs.NamedFields.{descriptor_fields, declared_place, is_declared_at};
+    ghost use Rattle.prost_reflect_dynamic.specs.NamedFields.{descriptor_fields, is_declared_at};
+    ghost use Rattle.prost_reflect_rows.specs.Paths.{declared_place};
     ghost use Rattle.prost_reflect_dynamic.specs.Options.{OptionsOf};
     ghost use Rattle.prost_reflect_pool.specs.declared.pooled_type.PooledType.{PooledType};
     ghost use Rattle.prost_reflect_dynamic.specs.Access.{IsOwnField, number_named, number_of};

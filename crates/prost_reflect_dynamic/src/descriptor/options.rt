@@ -1,11 +1,13 @@
 //! Options of definitions: the bytes that a record stores, read by the message type that the pool has for them.
 
 ghost use Rattle.std.specs.Prelude.{◌≡◌};
-ghost use Rattle.prost_reflect_dynamic.specs.Options.{AnswersBy, bytes_or_none, options_refusal};
+ghost use Rattle.prost_reflect_dynamic.specs.Options.{AnswersBy, options_refusal};
+ghost use Rattle.prost_reflect_rows.specs.Options.{bytes_or_none};
 ghost use Rattle.prost_reflect_dynamic.specs.declared.descriptor.options.OptionsError.TheVariants as options_errors;
 
 use crate::descriptor::{DescriptorPool, MessageDescriptor, Placed};
 use crate::message::DynamicMessage;
+use prost_reflect_rows::options::bytes_or_none;
 use prost_reflect_wire::DecodeError;
 use std::alloc::AllocError;
 use thiserror::Error;
@@ -74,15 +76,5 @@ pub(super) fn options_by(
             Ok(message)
         }
         None => Err(OptionsError::NoOptionsMessage),
-    }
-}
-
-/// The bytes that are stored, or none.
-fn bytes_or_none(stored: &Option<Vec<u8>>) -> &[u8]
-    ensures { result.now ≡ bytes_or_none stored.now }
-{
-    match stored {
-        Some(bytes) => bytes.as_slice(),
-        None => &[],
     }
 }

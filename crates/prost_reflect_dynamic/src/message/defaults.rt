@@ -3,19 +3,18 @@
 ghost use Rattle.std.specs.Prelude.{◌≡◌, true, IfOk};
 ghost use Rattle.prost_reflect_wire.specs.Edit.{default_value};
 ghost use Rattle.prost_reflect_wire.specs.Schema.{field_valid};
-ghost use Rattle.prost_reflect_wire.specs.Scalar.{scalar_eq};
 ghost use Rattle.prost_reflect_wire.specs.Typing.{is_field_default, kept_inside};
 ghost use Rattle.prost_reflect_tables.specs.Rows.{field_row};
-ghost use Rattle.prost_reflect_tables.specs.Shown.{schema_field, own_type};
+ghost use Rattle.prost_reflect_tables.specs.Shown.{schema_field};
 ghost use Rattle.prost_reflect_pool.specs.MessageTypes.{schema_at};
 ghost use Rattle.prost_reflect_pool.specs.SharedPools.{pool_rows};
 ghost use Rattle.prost_reflect_dynamic.specs.Defaults.{IsRowDefault};
-ghost use Rattle.prost_reflect_dynamic.specs.Scalars.{scalar_of};
 ghost use Rattle.prost_reflect_dynamic.specs.View.{value_of};
 
 use crate::value::{Value, defaults};
 use prost_reflect_pool::PooledType;
-use prost_reflect_tables::{FieldTable, ScalarRef};
+use prost_reflect_rows::scalars::is_default;
+use prost_reflect_tables::FieldTable;
 use std::alloc::{AllocError, Global};
 
 /// Whether a value, of any form, is what its field has where nothing is stored: an empty list or map, or the default of a
@@ -45,16 +44,4 @@ pub(crate) fn default_value(
     ensures value { IfOk result (λ v. value_of v ≡ default_value (schema_at message_type.now) (schema_field (pool_rows message_type.now.pool) (field_row field.now)).form (schema_field (pool_rows message_type.now.pool) (field_row field.now)).value_type) }
 {
     defaults::default_value(alloc, message_type.pool(), field)
-}
-
-/// Whether a scalar is the default of its field: the one that the definition writes, else that of the kind. A scalar that
-/// is not of the kind is none.
-pub(crate) fn is_default(
-    message_type: &PooledType,
-    field: &FieldTable,
-    scalar: ScalarRef<'_>,
-) -> bool
-    ensures { result ≡ scalar_eq (scalar_of scalar.entry) (own_type (pool_rows message_type.now.pool).enums (field_row field.now)).default }
-{
-    scalar.equals(defaults::scalar_default(message_type.pool(), field))
 }

@@ -2,8 +2,7 @@
 
 ghost use Rattle.std.specs.Option.{SomeIff};
 ghost use Rattle.std.specs.Prelude.{◌≡◌, ◌≤◌, ◌<◌, ◌^◌, ◌++◌, true, Some, None, length, IfOk, IfErr, OnOk, OnErr};
-ghost use Rattle.prost_reflect_wire.specs.declared.key.WireType.TheVariants as wires;
-ghost use Rattle.prost_reflect_wire.specs.Schema.{field_of, passes};
+ghost use Rattle.prost_reflect_wire.specs.Schema.{field_of};
 ghost use Rattle.prost_reflect_wire.specs.Writing.{encoded};
 ghost use Rattle.prost_reflect_wire.specs.Typing.{kept, encodable, WellStored};
 ghost use Rattle.prost_reflect_wire.specs.Storing.{value_bytes};
@@ -16,23 +15,23 @@ ghost use Rattle.prost_reflect_pool.specs.MapParts.{map_parts};
 ghost use Rattle.prost_reflect_dynamic.specs.Encoding.{unknown_bytes, nested_bytes, ValueWritable, OwnUnknown};
 ghost use Rattle.prost_reflect_pool.specs.SharedPools.{pool_rows};
 ghost use Rattle.prost_reflect_fields.specs.Known.{known_of};
-ghost use Rattle.prost_reflect_dynamic.specs.NestedMaps.{NestedMapOfRows, AreEntries, nested_entry_bytes, nested_pairs_bytes};
+ghost use Rattle.prost_reflect_rows.specs.FieldKinds.{NestedMapOfRows};
+ghost use Rattle.prost_reflect_dynamic.specs.NestedMaps.{AreEntries, nested_entry_bytes, nested_pairs_bytes};
 ghost use Rattle.prost_reflect_wire.specs.Content.{ScalarValue};
 ghost use Rattle.prost_reflect_dynamic.specs.View.{key_of, value_of, content_of, slot_of};
-ghost use Rattle.prost_reflect_dynamic.specs.Scalars.{TakesScalar};
+ghost use Rattle.prost_reflect_rows.specs.Scalars.{TakesScalar};
 ghost use Rattle.prost_reflect_dynamic.specs.ReadBack.{ReadsBack, IsOnlyOf};
 
 mod list;
 mod map;
-pub(crate) mod scalar;
 
 use crate::message::DynamicMessage;
 use crate::message::encode::list::write_list;
 use crate::message::encode::map::write_map;
-use crate::message::encode::scalar::write_kept_scalar;
 use crate::value::{MapKey, Value};
 use prost_reflect_fields::slot::FieldSlot;
 use prost_reflect_pool::PooledType;
+use prost_reflect_rows::writing::write_kept_scalar;
 use prost_reflect_tables::{FieldTable, TableKind};
 use prost_reflect_wire::{
     ByteSink, EncodeError, LengthSink, Sink, WireType, write_fields, write_key,

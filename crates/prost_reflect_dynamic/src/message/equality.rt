@@ -1,15 +1,14 @@
 //! Equality of values and messages.
 
 ghost use Rattle.std.specs.Prelude.{◌≡◌, ◌↔◌, IsTrue};
-ghost use Rattle.prost_reflect_pool.specs.SharedPools.{pool_contents};
 ghost use Rattle.prost_reflect_dynamic.specs.Stored.{stored_items, stored_pairs, value_stored, message_stored};
 ghost use Rattle.prost_reflect_dynamic.specs.Same.{same_items, same_pairs, equal_values, equal_messages, value_laws, message_laws};
 ghost use Rattle.prost_reflect_dynamic.specs.View.{content_of, value_of};
 
-use crate::message::{DynamicMessage, stands_at};
+use crate::message::DynamicMessage;
 use crate::value::{MapKey, Value};
 use prost_reflect_fields::slot::FieldSlot;
-use prost_reflect_pool::PooledType;
+use prost_reflect_rows::types::are_equal_types;
 use std::collections::BTreeMap;
 
 impl PartialEq for Value {
@@ -125,11 +124,4 @@ fn are_equal_messages(a: &DynamicMessage, b: &DynamicMessage) -> bool
         }
     }
     others.next().is_none()
-}
-
-/// Whether two message types are one: their places first, since two pools are compared file by file.
-fn are_equal_types(a: &PooledType, b: &PooledType) -> bool
-    ensures { IsTrue result ↔ ((pool_contents b.now.pool ≡ pool_contents a.now.pool) × (b.now.index ≡ a.now.index)) }
-{
-    stands_at(a, b.pool(), b.index())
 }

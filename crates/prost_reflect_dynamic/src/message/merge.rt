@@ -1,28 +1,21 @@
 //! Merging bytes into messages (the encoding guide, "Last One Wins").
 
-ghost use Rattle.std.specs.Prelude.{◌≡◌, ◌≢◌, ℕ, true, List, [], IfOk, IfErr, IfSome, IfNone};
-ghost use Rattle.prost_reflect_wire.specs.Record.{Record};
-ghost use Rattle.prost_reflect_wire.specs.Front.{FieldFront};
+ghost use Rattle.std.specs.Prelude.{◌≡◌, ◌≢◌, true, [], IfOk, IfErr};
 ghost use Rattle.prost_reflect_wire.specs.Grammar.{LEVEL_LIMIT, Accepts};
 ghost use Rattle.prost_reflect_wire.specs.Typing.{kept, WellStored};
 ghost use Rattle.prost_reflect_wire.specs.Fault.{StandsInMessage};
 ghost use Rattle.prost_reflect_wire.specs.Content.{schema_of, type_of};
 ghost use Rattle.prost_reflect_wire.specs.Decoding.{Holds, Progress};
 ghost use Rattle.prost_reflect_pool.specs.MessageTypes.{schema_at, type_at, SameMessage};
-ghost use Rattle.prost_reflect_fields.specs.Known.{known_of};
-ghost use Rattle.prost_reflect_fields.specs.WholeOneofs.{HasWholeOneofs};
-ghost use Rattle.prost_reflect_dynamic.specs.Merged.{MergesMeaning, HasNumbersOf, BeginsWith};
+ghost use Rattle.prost_reflect_dynamic.specs.Merged.{MergesMeaning};
 ghost use Rattle.prost_reflect_dynamic.specs.View.{content_of, message_type_of};
 ghost use Rattle.prost_reflect_dynamic.specs.DeepTypes.{all_typed};
 ghost use Rattle.prost_reflect_dynamic.specs.Stored.{message_stored};
 ghost use Rattle.prost_reflect_dynamic.specs.TypedSteps.{StaysTyped};
 
 use crate::message::DynamicMessage;
-use prost_reflect_fields::number_sets::add_number;
-use prost_reflect_pool::PooledType;
-use prost_reflect_wire::{DecodeError, RECURSION_LIMIT, decode_key, skip_value};
-use std::alloc::{AllocError, Global};
-use std::collections::BTreeSet;
+use prost_reflect_rows::numbers::numbers_in;
+use prost_reflect_wire::{DecodeError, RECURSION_LIMIT};
 
 impl DynamicMessage {
     /// Reads the records of the bytes behind those of the message, in at most 100 levels of messages and groups.
@@ -108,37 +101,4 @@ impl DynamicMessage {
         self.replace_at(&numbers, part)?;
         Ok(())
     }
-}
-
-/// The numbers of the records that the bytes begin with, and the other members of their fields' oneofs: what reading them
-/// may change.
-fn numbers_in(
-    alloc: Global,
-    message_type: &PooledType,
-    bytes: &[u8],
-) -> Result<BTreeSet<u32>, AllocError>
-    ensures whole { IfOk result (λ numbers. HasWholeOneofs (known_of message_type.now) numbers) }
-    ensures numbers { IfOk result (λ numbers. HasNumbersOf bytes.now numbers) }
-{
-    let mut numbers = BTreeSet::new(alloc);
-    let mut rest = bytes;
-    while let Some((number, after)) = first_number(rest) {
-        add_number(&mut numbers, message_type, number)?;
-        rest = after;
-    }
-    Ok(numbers)
-}
-
-/// The number of the record that the bytes begin with, and what follows it.
-fn first_number(bytes: &[u8]) -> Option<(u32, &[u8])>
-    ensures some { IfSome result (λ x. BeginsWith x.0 bytes.now x.1.now) }
-    ensures none { IfNone result ((r : Record) (rest : List ℕ) → FieldFront LEVEL_LIMIT r bytes.now rest → ⊥) }
-{
-    let Ok((number, wire_type, after)) = decode_key(bytes) else {
-        return None;
-    };
-    let Ok(rest) = skip_value(number, wire_type, after, RECURSION_LIMIT) else {
-        return None;
-    };
-    Some((number.get(), rest))
 }

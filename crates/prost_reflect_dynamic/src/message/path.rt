@@ -4,17 +4,18 @@ ghost use Rattle.std.specs.Prelude.{◌≡◌, IfOk, option_map};
 ghost use Rattle.prost_reflect_wire.specs.Content.{schema_of, type_of};
 ghost use Rattle.prost_reflect_wire.specs.Typing.{WellStored, value_valid};
 ghost use Rattle.prost_reflect_wire.specs.Edit.{PathTo};
-ghost use Rattle.prost_reflect_dynamic.specs.Paths.{field_led, IsSetAt, HeldPath, SetInHeld};
+ghost use Rattle.prost_reflect_rows.specs.Paths.{field_led};
+ghost use Rattle.prost_reflect_dynamic.specs.Paths.{IsSetAt, HeldPath, SetInHeld};
 ghost use Rattle.prost_reflect_dynamic.specs.Named.{schema_named, type_named};
 ghost use Rattle.prost_reflect_dynamic.specs.Variants.{message_in};
 ghost use Rattle.prost_reflect_dynamic.specs.declared.value.Value.{out-Value};
 ghost use Rattle.prost_reflect_dynamic.specs.View.{value_of, content_of};
 
 use crate::descriptor::MessageDescriptor;
-use crate::descriptor::path::field_led;
 use crate::message::DynamicMessage;
 use crate::value::Value;
 use crate::value::valid::value_valid;
+use prost_reflect_rows::paths::field_led;
 use std::alloc::{AllocError, Global};
 
 /// Whether the field that a path of numbers leads to from the message type takes the value; none if the path leads to no

@@ -9,10 +9,10 @@ ghost use Rattle.prost_reflect_dynamic.specs.View.{message_type_of};
 ghost use Rattle.prost_reflect_dynamic.specs.declared.message.setting.SetFieldError.TheVariants as refusals;
 
 use crate::descriptor::FieldDescriptor;
-use crate::descriptor::kind::kind_name;
 use crate::message::DynamicMessage;
 use crate::message::encodable::takes_value;
 use crate::value::Value;
+use prost_reflect_rows::kinds::kind_name;
 use std::alloc::AllocError;
 use std::fmt;
 use thiserror::Error;

@@ -7,7 +7,7 @@ ghost use Rattle.prost_reflect_tables.specs.Rows.{field_row};
 ghost use Rattle.prost_reflect_tables.specs.Shown.{schema_field};
 ghost use Rattle.prost_reflect_pool.specs.SharedPools.{pool_contents, pool_rows};
 ghost use Rattle.prost_reflect_fields.specs.Known.{known_of};
-ghost use Rattle.prost_reflect_dynamic.specs.DeepTypes.{all_typed, value_typed, items_typed, pairs_typed, place_for, stands_there, place_named};
+ghost use Rattle.prost_reflect_dynamic.specs.DeepTypes.{all_typed, value_typed, items_typed, pairs_typed, place_for, stands_there};
 ghost use Rattle.prost_reflect_dynamic.specs.Stored.{stored_items, stored_pairs, value_stored, message_stored};
 ghost use Rattle.prost_reflect_dynamic.specs.View.{content_of};
 
@@ -15,7 +15,8 @@ use crate::message::DynamicMessage;
 use crate::value::{MapKey, Value};
 use prost_reflect_fields::slot::FieldSlot;
 use prost_reflect_pool::PooledType;
-use prost_reflect_tables::{FieldTable, TableKind};
+use prost_reflect_rows::kinds::named_place;
+use prost_reflect_tables::FieldTable;
 use std::collections::BTreeMap;
 
 impl DynamicMessage {
@@ -139,15 +140,5 @@ fn place_of(message_type: &PooledType, field: &FieldTable, value: &Value) -> Opt
             _ => None,
         },
         None => named_place(field.kind),
-    }
-}
-
-/// The place of the message type that a kind names.
-fn named_place(kind: TableKind) -> Option<usize>
-    ensures { result ≡ place_named kind }
-{
-    match kind {
-        TableKind::Message(place) => Some(place),
-        _ => None,
     }
 }

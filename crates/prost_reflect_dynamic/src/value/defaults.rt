@@ -6,7 +6,7 @@ ghost use Rattle.prost_reflect_wire.specs.Schema.{field_valid};
 ghost use Rattle.prost_reflect_wire.specs.Typing.{element_valid, fit_test, is_empty_value, kind_takes, value_passes};
 ghost use Rattle.prost_reflect_tables.specs.Linking.{is_repeated};
 ghost use Rattle.prost_reflect_tables.specs.Rows.{field_row};
-ghost use Rattle.prost_reflect_tables.specs.Shown.{schema_from, schema_field, own_type};
+ghost use Rattle.prost_reflect_tables.specs.Shown.{schema_from, schema_field};
 ghost use Rattle.prost_reflect_pool.specs.Pools.{pool_rows};
 ghost use Rattle.prost_reflect_pool.specs.SharedPools.{pool_rows as shared_rows};
 ghost use Rattle.prost_reflect_dynamic.specs.Access.{takes};
@@ -20,11 +20,12 @@ ghost use Rattle.prost_reflect_dynamic.specs.Variants.{message_in};
 ghost use Rattle.prost_reflect_dynamic.specs.declared.value.Value.{out-Value};
 ghost use Rattle.prost_reflect_dynamic.specs.View.{key_of, value_of};
 
-use crate::descriptor::forms::{is_list, is_map};
 use crate::descriptor::{ExtensionDescriptor, FieldDescriptor, Kind};
 use crate::message::DynamicMessage;
 use crate::value::{MapKey, Value};
 use prost_reflect_pool::{LinkedPool, PooledType};
+use prost_reflect_rows::forms::{is_list, is_map};
+use prost_reflect_rows::scalars::scalar_default;
 use prost_reflect_tables::{FieldTable, ScalarRef, TableKind};
 use std::alloc::{AllocError, Global};
 use std::collections::BTreeMap;
@@ -231,11 +232,4 @@ fn is_scalar(value: &Value, scalar: ScalarRef<'_>) -> bool
         Some(own) => own.equals(scalar),
         None => false,
     }
-}
-
-/// The default of a field's own values: the one that the definition writes, else that of the kind.
-pub(crate) fn scalar_default<'a>(pool: &LinkedPool, field: &'a FieldTable) -> ScalarRef<'a>
-    ensures { scalar_of result ≡ (own_type (pool_rows pool.now).enums (field_row field.now)).default }
-{
-    pool.tables().scalar_default(field)
 }

@@ -1,11 +1,8 @@
 //! Which values kinds and fields take.
 
-ghost use Rattle.std.specs.Prelude.{◌≡◌, ◌^◌, nat_lt, false, true};
+ghost use Rattle.std.specs.Prelude.{◌≡◌, false, true};
 ghost use Rattle.std.specs.Option.{option_copied};
-ghost use Rattle.std.specs.Str.{is_utf8};
 ghost use Rattle.std.specs.List.{list_all};
-ghost use Rattle.prost_reflect_wire.specs.Varint.{are_bytes};
-ghost use Rattle.prost_reflect_wire.specs.Scalar.{in_i32, in_i64};
 ghost use Rattle.prost_reflect_wire.specs.Typing.{kind_takes, element_valid, value_valid};
 ghost use Rattle.prost_reflect_tables.specs.Rows.{field_row};
 ghost use Rattle.prost_reflect_tables.specs.Shown.{schema_field, schema_kind};
@@ -13,16 +10,16 @@ ghost use Rattle.prost_reflect_pool.specs.Pools.{pool_rows};
 ghost use Rattle.prost_reflect_pool.specs.declared.pooled_type.PooledType.{PooledType};
 ghost use Rattle.prost_reflect_dynamic.specs.Access.{IsOwnField, number_of, takes, takes_at};
 ghost use Rattle.prost_reflect_dynamic.specs.ExtensionAccess.{IsOwnExtension, extension_number, extension_takes};
-ghost use Rattle.prost_reflect_dynamic.specs.NamedKinds.{enums_in, kind_named};
-ghost use Rattle.prost_reflect_dynamic.specs.Scalars.{scalar_of};
+ghost use Rattle.prost_reflect_rows.specs.KindNames.{enums_in};
+ghost use Rattle.prost_reflect_dynamic.specs.NamedKinds.{kind_named};
 ghost use Rattle.prost_reflect_dynamic.specs.Valid.{list_fits, map_fits, pair_fits};
 ghost use Rattle.prost_reflect_dynamic.specs.View.{key_of, value_of};
 
 use crate::descriptor::{ExtensionDescriptor, FieldDescriptor, Kind};
-use crate::message::enums::takes_number;
 use crate::value::{MapKey, Value};
 use prost_reflect_pool::LinkedPool;
-use prost_reflect_tables::{FieldTable, ScalarRef, TableKind};
+use prost_reflect_rows::scalars::scalar_valid;
+use prost_reflect_tables::{FieldTable, TableKind};
 use std::collections::BTreeMap;
 
 impl Value {
@@ -153,83 +150,4 @@ pub(crate) fn element_valid(pool: Option<&LinkedPool>, kind: TableKind, value: &
         Value::Map(_) => false,
         _ => scalar_valid(pool, kind, value.scalar()),
     }
-}
-
-/// Whether a scalar is one of the kind.
-pub(crate) fn scalar_valid(
-    pool: Option<&LinkedPool>,
-    kind: TableKind,
-    scalar: ScalarRef<'_>,
-) -> bool
-    ensures { result ≡ kind_takes (schema_kind (enums_in (option_copied pool.entry)) kind false) (scalar_of scalar.entry) }
-{
-    match (kind, scalar) {
-        (TableKind::Double, ScalarRef::F64(bits)) => fits_u64(bits),
-        (TableKind::Float, ScalarRef::F32(bits)) => fits_u32(bits),
-        (TableKind::Int32, ScalarRef::I32(number)) => fits_i32(number),
-        (TableKind::Sint32, ScalarRef::I32(number)) => fits_i32(number),
-        (TableKind::Sfixed32, ScalarRef::I32(number)) => fits_i32(number),
-        (TableKind::Int64, ScalarRef::I64(number)) => fits_i64(number),
-        (TableKind::Sint64, ScalarRef::I64(number)) => fits_i64(number),
-        (TableKind::Sfixed64, ScalarRef::I64(number)) => fits_i64(number),
-        (TableKind::Uint32, ScalarRef::U32(number)) => fits_u32(number),
-        (TableKind::Fixed32, ScalarRef::U32(number)) => fits_u32(number),
-        (TableKind::Uint64, ScalarRef::U64(number)) => fits_u64(number),
-        (TableKind::Fixed64, ScalarRef::U64(number)) => fits_u64(number),
-        (TableKind::Bool, ScalarRef::Bool(_)) => true,
-        (TableKind::String, ScalarRef::String(text)) => is_text(text),
-        (TableKind::Bytes, ScalarRef::Bytes(bytes)) => are_bytes(bytes),
-        (TableKind::Enum(place), ScalarRef::EnumNumber(number)) => {
-            fits_i32(number) && takes_number(pool, place, number)
-        }
-        _ => false,
-    }
-}
-
-/// Every i32 is in range.
-fn fits_i32(_number: i32) -> bool
-    ensures result { result ≡ true }
-    ensures range { in_i32 _number ≡ true }
-{
-    true
-}
-
-/// Every i64 is in range.
-fn fits_i64(_number: i64) -> bool
-    ensures result { result ≡ true }
-    ensures range { in_i64 _number ≡ true }
-{
-    true
-}
-
-/// Every u32 is in range.
-fn fits_u32(_number: u32) -> bool
-    ensures result { result ≡ true }
-    ensures range { nat_lt _number (2 ^ 32) ≡ true }
-{
-    true
-}
-
-/// Every u64 is in range.
-fn fits_u64(_number: u64) -> bool
-    ensures result { result ≡ true }
-    ensures range { nat_lt _number (2 ^ 64) ≡ true }
-{
-    true
-}
-
-/// Every text is UTF-8.
-fn is_text(_text: &str) -> bool
-    ensures result { result ≡ true }
-    ensures utf8 { is_utf8 _text.now ≡ true }
-{
-    true
-}
-
-/// Every u8 is a byte.
-fn are_bytes(_bytes: &[u8]) -> bool
-    ensures result { result ≡ true }
-    ensures range { are_bytes _bytes.now ≡ true }
-{
-    true
 }

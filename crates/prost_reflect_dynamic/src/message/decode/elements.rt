@@ -8,14 +8,15 @@ ghost use Rattle.prost_reflect_wire.specs.Decoding.{Step, StandsBehindKey};
 ghost use Rattle.prost_reflect_dynamic.specs.Contents.{value_set};
 ghost use Rattle.prost_reflect_fields.specs.Known.{known_of, is_known};
 ghost use Rattle.prost_reflect_dynamic.specs.Lists.{IsList, IsListOrNone, with_element};
-ghost use Rattle.prost_reflect_dynamic.specs.Targets.{NestedList};
+ghost use Rattle.prost_reflect_rows.specs.FieldKinds.{NestedList};
 ghost use Rattle.prost_reflect_dynamic.specs.View.{value_of, content_of, message_type_of};
 ghost use Rattle.prost_reflect_dynamic.specs.Stored.{value_stored};
 ghost use Rattle.prost_reflect_dynamic.specs.TypedSteps.{element_typed, item_added, StaysTyped};
 
 use crate::message::DynamicMessage;
-use crate::message::decode::nested::{MessageKind, empty_message};
+use crate::message::decode::nested::empty_message;
 use crate::value::Value;
+use prost_reflect_rows::targets::MessageKind;
 use prost_reflect_wire::{DecodeError, FieldNumber, WireType};
 use std::alloc::{AllocError, Global};
 

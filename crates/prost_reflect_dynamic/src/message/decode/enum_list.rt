@@ -1,51 +1,33 @@
 //! Reading lists of enum numbers (the encoding guide, "Repeated Elements" and "Packed Repeated Fields"; the page "Enum
 //! Behavior").
 
-ghost use Rattle.std.specs.Prelude.{◌≡◌, ◌≢◌, pos, true, [], ◌∷◌, ◌++◌, map, unwrap_or, IfOk, IfErr};
+ghost use Rattle.std.specs.Prelude.{◌≡◌, ◌≢◌, true, [], ◌∷◌, ◌++◌, map, unwrap_or, IfOk, IfErr};
 ghost use Rattle.std.specs.List.{list_all};
 ghost use Rattle.prost_reflect_wire.specs.declared.key.WireType.TheVariants as wires;
 ghost use Rattle.prost_reflect_wire.specs.Content.{ListValue, NoValues, entries_of, value_at};
 ghost use Rattle.prost_reflect_wire.specs.Fault.{ElementFault};
-ghost use Rattle.prost_reflect_wire.specs.Front.{VarintFront};
-ghost use Rattle.prost_reflect_wire.specs.Scalar.{Enum, Open};
 ghost use Rattle.prost_reflect_wire.specs.Typing.{WellStored};
-ghost use Rattle.prost_reflect_wire.specs.Decoding.{ScalarFault, Step, StandsBehindKey};
+ghost use Rattle.prost_reflect_wire.specs.Decoding.{Step, StandsBehindKey};
 ghost use Rattle.prost_reflect_dynamic.specs.Contents.{value_set};
 ghost use Rattle.prost_reflect_fields.specs.Known.{known_of, is_known};
 ghost use Rattle.prost_reflect_dynamic.specs.Lists.{IsList};
-ghost use Rattle.prost_reflect_dynamic.specs.Numbers.{NumberList, BodyTaken, PartsNumbers, JoinsNumbers, number_element, is_stray_varint, declared_in, strays_in, numbers_taken, varints_added};
+ghost use Rattle.prost_reflect_rows.specs.FieldKinds.{NumberList};
+ghost use Rattle.prost_reflect_dynamic.specs.Numbers.{BodyTaken, PartsNumbers, JoinsNumbers, number_element, is_stray_varint, declared_in, strays_in, numbers_taken, varints_added};
 ghost use Rattle.prost_reflect_pool.specs.SharedPools.{pool_rows};
 ghost use Rattle.prost_reflect_dynamic.specs.View.{content_of, message_type_of, value_of};
 ghost use Rattle.prost_reflect_dynamic.specs.TypedSteps.{StaysTyped};
 
 use crate::message::DynamicMessage;
-use crate::message::decode::list::last_digits;
 use crate::message::enums::is_stray;
 use crate::value::Value;
 use prost_reflect_pool::PooledType;
+use prost_reflect_rows::bodies::{last_digits, number_at};
 use prost_reflect_tables::TableKind;
 use prost_reflect_wire::{
     DecodeError, FieldNumber, UnknownField, UnknownFieldValue, WireType, decode_delimited,
     decode_varint, low_i32,
 };
 use std::alloc::{AllocError, Global};
-
-/// Reads the varint of a record of one number behind its key, and gives it and the bytes behind it.
-///
-/// # Errors
-///
-/// `WireType` if the wire type is another one, `EndGroup` at an end key, `Truncated` and `Varint` as `decode_varint`.
-fn number_at(wire_type: WireType, bytes: &[u8]) -> Result<(u64, &[u8]), DecodeError>
-    ensures wire { IfOk result (λ _. wire_type ≡ wires.Varint) }
-    ensures ok { IfOk result (λ x. VarintFront x.0 bytes.now x.1.now) }
-    ensures fault { IfErr result (λ e. ScalarFault (Enum (pos 0) Open) wire_type e bytes.now) }
-{
-    match wire_type {
-        WireType::Varint => decode_varint(bytes),
-        WireType::EndGroup => Err(DecodeError::EndGroup),
-        _ => Err(DecodeError::WireType),
-    }
-}
 
 /// Adds the number of a varint behind the elements of a list, or the varint behind the strays if the enum does not declare
 /// the number.

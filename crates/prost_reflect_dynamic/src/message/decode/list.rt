@@ -5,35 +5,20 @@ ghost use Rattle.prost_reflect_wire.specs.Schema.{is_packable};
 ghost use Rattle.prost_reflect_wire.specs.Typing.{WellStored};
 ghost use Rattle.prost_reflect_wire.specs.Decoding.{Step, StandsBehindKey};
 ghost use Rattle.prost_reflect_fields.specs.Known.{known_of};
-ghost use Rattle.prost_reflect_dynamic.specs.Lists.{AddsPacked, RefusesPacked, AddsElements, RefusesElements, JoinsElements, IsList, ListField};
+ghost use Rattle.prost_reflect_dynamic.specs.Lists.{AddsPacked, RefusesPacked, AddsElements, RefusesElements, JoinsElements, IsList};
+ghost use Rattle.prost_reflect_rows.specs.FieldKinds.{ListField};
 ghost use Rattle.prost_reflect_dynamic.specs.Scalars.{plain_kind};
 ghost use Rattle.prost_reflect_dynamic.specs.View.{value_of, content_of, message_type_of};
 ghost use Rattle.prost_reflect_dynamic.specs.TypedSteps.{StaysTyped};
 
 use crate::message::DynamicMessage;
-use crate::message::decode::scalar::{scalar_at, wire_type_of};
+use crate::message::decode::scalar::scalar_at;
 use crate::value::Value;
+use prost_reflect_rows::bodies::elements_in;
+use prost_reflect_rows::scalars::wire_type_of;
 use prost_reflect_tables::{TableKind, is_packable};
 use prost_reflect_wire::{DecodeError, FieldNumber, WireType, decode_delimited};
 use std::alloc::Global;
-
-/// How many elements a packed record's body has, if it has nothing else. Only speed rests on it.
-fn elements_in(wire_type: WireType, body: &[u8]) -> usize {
-    match wire_type {
-        WireType::SixtyFourBit => body.len() / 8,
-        WireType::ThirtyTwoBit => body.len() / 4,
-        _ => last_digits(body),
-    }
-}
-
-/// How many bytes are the last of a varint.
-pub(super) fn last_digits(body: &[u8]) -> usize {
-    let mut count = 0usize;
-    for byte in body {
-        count = count.wrapping_add(usize::from(*byte < 0x80));
-    }
-    count
-}
 
 /// Adds the elements of a packed record's body, which stand end to end. The loop is made once for each of the kinds that many
 /// elements have most often.

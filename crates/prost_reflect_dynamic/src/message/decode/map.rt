@@ -1,16 +1,15 @@
 //! Map fields (the encoding guide, "Maps").
 
 ghost use Rattle.std.specs.Prelude.{◌≡◌, ◌≢◌, true, [], Some, IsSome, IfOk, IfErr, OnOk};
-ghost use Rattle.prost_reflect_wire.specs.declared.key.WireType.TheVariants as wires;
-ghost use Rattle.prost_reflect_wire.specs.Front.{DelimitedFront};
 ghost use Rattle.prost_reflect_wire.specs.Content.{MapValue, value_at, entries_of};
 ghost use Rattle.prost_reflect_wire.specs.Meaning.{put, pairs_in};
 ghost use Rattle.prost_reflect_wire.specs.Typing.{WellStored};
 ghost use Rattle.prost_reflect_wire.specs.Decoding.{Step, StandsBehindKey};
-ghost use Rattle.prost_reflect_wire.specs.EntryReading.{IsMapped, BodyFault};
+ghost use Rattle.prost_reflect_wire.specs.EntryReading.{IsMapped};
 ghost use Rattle.prost_reflect_dynamic.specs.Contents.{value_set};
 ghost use Rattle.prost_reflect_fields.specs.Known.{known_of, is_known};
-ghost use Rattle.prost_reflect_dynamic.specs.Maps.{ScalarMap, IsDefaultOf, IsAbsentValue, ReadsEntry, RefusesEntry};
+ghost use Rattle.prost_reflect_rows.specs.FieldKinds.{ScalarMap};
+ghost use Rattle.prost_reflect_dynamic.specs.Maps.{IsDefaultOf, IsAbsentValue, ReadsEntry, RefusesEntry};
 ghost use Rattle.prost_reflect_pool.specs.SharedPools.{pool_rows};
 ghost use Rattle.prost_reflect_dynamic.specs.Scalars.{plain_kind};
 ghost use Rattle.prost_reflect_dynamic.specs.Variants.{key_in};
@@ -23,10 +22,9 @@ use crate::message::decode::scalar::scalar_at;
 use crate::message::enums::is_stray;
 use crate::value::{MapKey, Value};
 use prost_reflect_pool::PooledType;
+use prost_reflect_rows::bodies::entry_body;
 use prost_reflect_tables::{ScalarRef, TableKind};
-use prost_reflect_wire::{
-    DecodeError, FieldNumber, WireType, decode_delimited, decode_key, skip_value,
-};
+use prost_reflect_wire::{DecodeError, FieldNumber, WireType, decode_key, skip_value};
 use std::alloc::{AllocError, Global};
 use std::collections::BTreeMap;
 
@@ -85,25 +83,6 @@ fn entry_at(
         }
     }
     Ok((key, value))
-}
-
-/// The body of an entry behind a map field's key, and the bytes behind it.
-///
-/// # Errors
-///
-/// `EndGroup` at an end key, `WireType` if the record is not delimited, `Truncated` and `Varint` as `decode_delimited`.
-pub(super) fn entry_body(wire_type: WireType, bytes: &[u8]) -> Result<(&[u8], &[u8]), DecodeError>
-    ensures ok { IfOk result (λ x. (wire_type ≡ wires.LengthDelimited) × DelimitedFront x.0.now bytes.now x.1.now) }
-    ensures fault { IfErr result (λ e. BodyFault e wire_type bytes.now) }
-{
-    match wire_type {
-        WireType::LengthDelimited => decode_delimited(bytes),
-        WireType::EndGroup => Err(DecodeError::EndGroup),
-        WireType::Varint => Err(DecodeError::WireType),
-        WireType::SixtyFourBit => Err(DecodeError::WireType),
-        WireType::StartGroup => Err(DecodeError::WireType),
-        WireType::ThirtyTwoBit => Err(DecodeError::WireType),
-    }
 }
 
 /// The value of a key kind as a key.

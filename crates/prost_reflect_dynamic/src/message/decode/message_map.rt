@@ -4,16 +4,18 @@ ghost use Rattle.std.specs.Prelude.{◌≡◌, ◌≢◌, ◌≤◌, ◌-◌, []
 ghost use Rattle.prost_reflect_wire.specs.Content.{empty, schema_of, type_of};
 ghost use Rattle.prost_reflect_wire.specs.Typing.{WellStored};
 ghost use Rattle.prost_reflect_wire.specs.Decoding.{Step, StandsBehindKey};
-ghost use Rattle.prost_reflect_dynamic.specs.NestedMaps.{NestedMap, ReadsNestedEntry, RefusesNestedEntry};
+ghost use Rattle.prost_reflect_rows.specs.FieldKinds.{NestedMap};
+ghost use Rattle.prost_reflect_dynamic.specs.NestedMaps.{ReadsNestedEntry, RefusesNestedEntry};
 ghost use Rattle.prost_reflect_dynamic.specs.Scalars.{plain_kind};
 ghost use Rattle.prost_reflect_dynamic.specs.View.{content_of, message_type_of};
 ghost use Rattle.prost_reflect_dynamic.specs.TypedSteps.{StaysTyped};
 
 use crate::message::DynamicMessage;
-use crate::message::decode::map::{default_of, entry_body, map_key};
+use crate::message::decode::map::{default_of, map_key};
 use crate::message::decode::nested::empty_message;
 use crate::message::decode::scalar::scalar_at;
 use crate::value::Value;
+use prost_reflect_rows::bodies::entry_body;
 use prost_reflect_tables::TableKind;
 use prost_reflect_wire::{DecodeError, FieldNumber, WireType, decode_key, skip_value};
 use std::alloc::Global;

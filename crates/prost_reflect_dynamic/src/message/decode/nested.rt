@@ -1,15 +1,15 @@
 //! Reading messages and groups (the encoding guide, "Submessages", "Groups" and "Last One Wins": the records of several
 //! messages of one field are read as those of one message).
 
-ghost use Rattle.std.specs.Prelude.{◌≡◌, ◌≢◌, ◌≤◌, ◌<◌, true, length, Some, None, IfOk, IfErr, OnOk};
+ghost use Rattle.std.specs.Prelude.{◌≡◌, ◌≢◌, ◌<◌, true, length, Some, None, IfOk, IfErr};
 ghost use Rattle.prost_reflect_wire.specs.Content.{MessageValue, empty, schema_of, type_of, entries_of, value_at};
 ghost use Rattle.prost_reflect_wire.specs.Typing.{WellStored};
 ghost use Rattle.prost_reflect_wire.specs.Decoding.{GroupProgress, Step, StandsBehindKey, StandsInGroup};
 ghost use Rattle.prost_reflect_fields.specs.Known.{known_of, oneof_of};
 ghost use Rattle.prost_reflect_pool.specs.MessageTypes.{schema_at};
 ghost use Rattle.prost_reflect_pool.specs.SharedPools.{pool_rows};
-ghost use Rattle.prost_reflect_dynamic.specs.Nested.{nested_wire, NestedRead, NestedFault, StandsBehindNested, HeldMessage, ReadIntoHeld, StandsInHeld};
-ghost use Rattle.prost_reflect_dynamic.specs.Targets.{NestedField, nested_kind};
+ghost use Rattle.prost_reflect_dynamic.specs.Nested.{NestedRead, StandsBehindNested, HeldMessage, ReadIntoHeld, StandsInHeld};
+ghost use Rattle.prost_reflect_rows.specs.FieldKinds.{NestedField, nested_kind};
 ghost use Rattle.prost_reflect_dynamic.specs.Variants.{message_in};
 ghost use Rattle.prost_reflect_dynamic.specs.declared.value.Value.{out-Value};
 ghost use Rattle.prost_reflect_dynamic.specs.View.{value_of, content_of, message_type_of};
@@ -19,17 +19,10 @@ ghost use Rattle.prost_reflect_dynamic.specs.TypedSteps.{typed_as, StaysTyped, V
 use crate::message::DynamicMessage;
 use crate::value::Value;
 use prost_reflect_pool::PooledType;
+use prost_reflect_rows::bodies::check_nested;
+use prost_reflect_rows::targets::MessageKind;
 use prost_reflect_wire::{DecodeError, FieldNumber, WireType, decode_delimited, decode_key};
 use std::alloc::{AllocError, Global};
-
-/// Which messages a field has.
-#[derive(Clone, Copy)]
-pub(crate) struct MessageKind {
-    /// The place of their type.
-    pub(crate) place: usize,
-    /// Whether each is written as a group.
-    pub(crate) is_group: bool,
-}
 
 impl DynamicMessage {
     /// Reads a message or a group behind its field's key into the message that is there, or into an empty one.
@@ -171,29 +164,6 @@ impl DynamicMessage {
             rest = self.merge_record(alloc, key, wire_type, after, levels)?;
         }
     }
-}
-
-/// Whether a message or a group may be read behind a key: the wire type is its own, and a level is left.
-fn check_nested(is_group: bool, wire_type: WireType, levels: u32) -> Result<(), DecodeError>
-    ensures wire { OnOk result (wire_type ≡ nested_wire is_group) }
-    ensures levels { OnOk result (1 ≤ levels) }
-    ensures fault { IfErr result (λ e. NestedFault is_group wire_type levels e) }
-{
-    let wanted = if is_group {
-        WireType::StartGroup
-    } else {
-        WireType::LengthDelimited
-    };
-    if wire_type == WireType::EndGroup {
-        return Err(DecodeError::EndGroup);
-    }
-    if wire_type != wanted {
-        return Err(DecodeError::WireType);
-    }
-    if levels == 0 {
-        return Err(DecodeError::Depth);
-    }
-    Ok(())
 }
 
 /// An empty message of the type at the place of a descriptor's pool.

@@ -5,28 +5,17 @@ ghost use Rattle.std.specs.Prelude.{◌≡◌, ◌≢◌, ◌⊎◌, IsSome, IfO
 ghost use Rattle.std.specs.Str.{is_utf8};
 ghost use Rattle.prost_reflect_wire.specs.Record.{Flat, Var, Fix64, Fix32, Len};
 ghost use Rattle.prost_reflect_wire.specs.declared.key.WireType.TheVariants as wires;
-ghost use Rattle.prost_reflect_dynamic.specs.Scalars.{plain_kind, HasWire, IsElement, ReadsScalar, RefusesScalar};
+ghost use Rattle.prost_reflect_dynamic.specs.Scalars.{plain_kind, IsElement, ReadsScalar, RefusesScalar};
+ghost use Rattle.prost_reflect_rows.specs.Scalars.{HasWire};
 
 use crate::value::Value;
+use prost_reflect_rows::scalars::wire_type_of;
 use prost_reflect_tables::TableKind;
 use prost_reflect_wire::{
     DecodeError, WireType, decode_delimited, decode_fixed32, decode_fixed64, decode_varint,
     low_i32, low_u32, unzigzag32, unzigzag64,
 };
 use std::alloc::Global;
-
-/// The wire type of a scalar kind's payloads.
-pub(crate) fn wire_type_of(kind: TableKind) -> WireType
-    requires { IsSome (plain_kind kind) }
-    ensures { HasWire kind result }
-{
-    match kind {
-        TableKind::Double | TableKind::Fixed64 | TableKind::Sfixed64 => WireType::SixtyFourBit,
-        TableKind::Float | TableKind::Fixed32 | TableKind::Sfixed32 => WireType::ThirtyTwoBit,
-        TableKind::String | TableKind::Bytes => WireType::LengthDelimited,
-        _ => WireType::Varint,
-    }
-}
 
 /// The value of a varint.
 #[inline(always)]

@@ -4,8 +4,8 @@ ghost use Rattle.prost_reflect_wire.specs.Sinks.{Adds};
 ghost use Rattle.prost_reflect_tables.specs.Rows.{field_row};
 ghost use Rattle.prost_reflect_dynamic.specs.Lists.{TakesScalars, payloads_bytes, records_bytes, packed_bytes, list_bytes};
 
-use crate::message::encode::scalar::{write_scalar, write_scalar_record};
 use crate::value::Value;
+use prost_reflect_rows::writing::{write_scalar, write_scalar_record};
 use prost_reflect_tables::{FieldTable, TableKind};
 use prost_reflect_wire::{Sink, WireType, write_key};
 

@@ -8,14 +8,15 @@ ghost use Rattle.prost_reflect_wire.specs.Storing.{value_bytes};
 ghost use Rattle.prost_reflect_wire.specs.Sinks.{Adds};
 ghost use Rattle.prost_reflect_tables.specs.Rows.{field_row};
 ghost use Rattle.prost_reflect_fields.specs.Known.{known_of};
-ghost use Rattle.prost_reflect_dynamic.specs.Maps.{TakesPairs, entry_bytes, pairs_bytes, IsMap, MapOfRows};
+ghost use Rattle.prost_reflect_dynamic.specs.Maps.{TakesPairs, entry_bytes, pairs_bytes, IsMap};
+ghost use Rattle.prost_reflect_rows.specs.FieldKinds.{MapOfRows};
 ghost use Rattle.prost_reflect_pool.specs.SharedPools.{pool_rows};
-ghost use Rattle.prost_reflect_dynamic.specs.Scalars.{TakesScalar};
+ghost use Rattle.prost_reflect_rows.specs.Scalars.{TakesScalar};
 ghost use Rattle.prost_reflect_dynamic.specs.View.{key_of, value_of};
 
-use crate::message::encode::scalar::write_kept_scalar;
 use crate::value::{MapKey, Value};
 use prost_reflect_pool::PooledType;
+use prost_reflect_rows::writing::write_kept_scalar;
 use prost_reflect_tables::FieldTable;
 use prost_reflect_wire::{Sink, WireType, write_key};
 use std::collections::BTreeMap;

@@ -1,6 +1,6 @@
 use Rattle.prost_reflect_dynamic.proofs.Common.{sym, field_row}
 use Rattle.prost_reflect_dynamic.proofs.DefaultParts.{default_typed}
-use Rattle.prost_reflect_dynamic.proofs.Described.{found_checked}
+use Rattle.prost_reflect_rows.proofs.Described.{found_checked}
 use Rattle.prost_reflect_dynamic.proofs.OwnFields.{and_ok}
 use Rattle.prost_reflect_dynamic.proofs.message.access.default_at.Goals as goal
 

@@ -1,5 +1,5 @@
 use Rattle.prost_reflect_dynamic.proofs.Common.{sym}
-use Rattle.prost_reflect_dynamic.proofs.Described.{found_checked}
+use Rattle.prost_reflect_rows.proofs.Described.{found_checked}
 use Rattle.prost_reflect_dynamic.proofs.message.access.says_nothing.Goals as goal
 
 pub is_field_default-requires : goal.is_field_default-requires

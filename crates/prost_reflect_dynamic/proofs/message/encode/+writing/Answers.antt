@@ -6,9 +6,9 @@ use Rattle.prost_reflect_dynamic.proofs.Encodings.{whole_written, entry_writable
 use Rattle.prost_reflect_dynamic.proofs.NestedWrites.{nested_written, no_message_value}
 use Rattle.prost_reflect_dynamic.proofs.WrittenValues.{row_written}
 use Rattle.prost_reflect_dynamic.proofs.ScalarRefs.{takes_scalar}
-use Rattle.prost_reflect_dynamic.proofs.Merging.{no_message_kind}
+use Rattle.prost_reflect_rows.proofs.FieldTargets.{no_message_kind}
 use Rattle.prost_reflect_dynamic.proofs.WrittenLists.{valid_list_value, row_list_written, takes_same, list_value_bytes, holds_at}
-use Rattle.prost_reflect_dynamic.proofs.RepeatedRows.{listed_form, map_of_rows}
+use Rattle.prost_reflect_rows.proofs.RepeatedRows.{listed_form, map_of_rows}
 use Rattle.prost_reflect_dynamic.proofs.NestedMapWrites.{nested_rows, nested_rows_written, nested_value_bytes, most_in, entry_at}
 use Rattle.prost_reflect_dynamic.proofs.WrittenMaps.{cut_pairs}
 use Rattle.prost_reflect_dynamic.proofs.MapRows.{valid_map_value}

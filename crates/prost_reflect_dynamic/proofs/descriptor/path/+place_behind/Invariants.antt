@@ -1,5 +1,0 @@
-use Rattle.prost_reflect_dynamic.proofs.Common.{length}
-use Rattle.prost_reflect_dynamic.proofs.descriptor.path.+place_behind.Given as goal
-
-abbrev pub decreases-place_behind : goal.decreases-place_behind
-decreases-place_behind l = length l.path.now

@@ -1,4 +1,0 @@
-use Rattle.prost_reflect_dynamic.proofs.message.equality.are_equal_types.Goals as goal
-
-pub returns : goal.returns
-returns c = rw (c.pool.ensures, c.index.ensures) at c.stands_at.ensures

@@ -1,0 +1,9 @@
+pub mod RowKinds
+pub mod KindNames
+pub mod Scalars
+pub mod FieldKinds
+pub mod Targets
+pub mod Paths
+pub mod Nested
+pub mod RecordNumbers
+pub mod Options
