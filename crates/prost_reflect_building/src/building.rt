@@ -12,9 +12,10 @@ ghost use Rattle.prost_reflect_tables.specs.Schema.{rows_of};
 ghost use Rattle.prost_reflect_tables.specs.declared.error.PoolError.TheVariants as pool_errors;
 
 use prost_reflect_base::Base;
+use prost_reflect_catalog::{linked_catalog, outlined};
 use prost_reflect_checks::check_added;
 use prost_reflect_flat::flattened;
-use prost_reflect_linking::{linked, linked_catalog, meanings, meanings_by_message, outlined};
+use prost_reflect_linking::{linked, meanings, meanings_by_message};
 use prost_reflect_pool::LinkedPool;
 use prost_reflect_resolving::Resolved;
 use prost_reflect_tables::{Catalog, PoolError, Tables};

@@ -1,5 +1,6 @@
 mod Common
 mod Lists
+pub mod FirstPlaces
 pub mod Flats
 pub mod Places
 pub mod Ordering

@@ -1,4 +1,5 @@
 pub mod Growth
+pub mod FirstPlaces
 pub mod Stays
 pub mod RowsGrow
 pub mod Untouched

@@ -8,12 +8,18 @@
 //!
 //! Begin with `laws`: `rows_grow`, `checks_grow` and `catalog_grows` are what the others lead to. `grown_message` computes the
 //! row of an old message with further extensions, `moved_extension` where those that it has move, and `merged` puts what is
-//! added among what stands in order.
+//! added among what stands in order. `linked_identity` and `json_name` give what the rows of added definitions say of where these
+//! stand and what they are called, and `add_item` puts what belongs to a place into the list of it; rows and catalog are made with
+//! them.
 #![tactic(auto)]
 
+mod belonging;
+mod identity;
 pub mod laws;
 mod merge;
 mod rows;
 
+pub use belonging::{add_item, empty_lists, is_below};
+pub use identity::{json_name, lent_identity, linked_identity};
 pub use merge::merged;
 pub use rows::{grown_message, moved_extension, sort_by_number};

@@ -1,10 +1,3 @@
 mod Common
 mod Listed
-mod Outlines
 mod Paired
-mod GatheredFrom
-mod FileNames
-mod Pushed
-mod GrownLists
-mod MovedExtensions
-mod Merged

@@ -6,10 +6,10 @@ use Rattle.std.proofs.lemmas.List.{drop_all, length-map, map-append}
 use Rattle.prost_reflect_tables.proofs.Grouping.{item_nowhere, item_past, item_set}
 use Rattle.prost_reflect_linking.proofs.Common.{ℕ, true, false, Option, List, [], Vec, Global, length, get_or, field_row, list_rows, map, drop, refl, sym, ap, ◌∙◌, arith, DefinitionRow, FieldRow, belonging, each_from, empty_lists, extended_place, grouped, linked_field, with_item}
 use Rattle.prost_reflect_linking.proofs.Paired.{belonging_of, extendee_of, pairs_of}
+use Rattle.prost_reflect_growth.proofs.FirstPlaces.{elsewhere}
+use Rattle.prost_reflect_growth.specs.FirstPlaces.{is_below}
 use Rattle.prost_reflect_growth.specs.RowsGrow.{further, grown_message}
 use Rattle.prost_reflect_linking.specs.Grown.{any_below, grown_by, list_from, listed_count}
-use Rattle.prost_reflect_linking.specs.GatheredLists.{is_below}
-use Rattle.prost_reflect_linking.proofs.GrownLists.{elsewhere}
 unfoldable use Rattle.prost_reflect_linking.specs.Grown.{grown_front}
 use Rattle.prost_reflect_tables.specs.Rows.{MessageRow}
 use Rattle.prost_reflect_tables.specs.declared.tables.FieldTable.{FieldTable}

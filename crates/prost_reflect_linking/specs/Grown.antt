@@ -1,8 +1,8 @@
 -- Which lists of extensions messages of a pool get. For contracts of linking alone.
 use Rattle.std.specs.Prelude.{ℕ, ◌-◌, Bool, nat_lt, if◌then◌else◌, List, [], ◌++◌, length, take, drop}
 use Rattle.std.specs.List.{list_any}
+use Rattle.prost_reflect_growth.specs.FirstPlaces.{is_below}
 use Rattle.prost_reflect_growth.specs.RowsGrow.{grown_message}
-use Rattle.prost_reflect_linking.specs.GatheredLists.{is_below}
 use Rattle.prost_reflect_linking.specs.Meanings.{MeaningRow}
 use Rattle.prost_reflect_tables.specs.Gathered.{list_at}
 use Rattle.prost_reflect_tables.specs.LinkedCatalog.{each_from}

@@ -9,10 +9,9 @@ ghost use Rattle.prost_reflect_shared.specs.Items.{items_of};
 ghost use Rattle.prost_reflect_tables.specs.Indexing.{list_rows};
 ghost use Rattle.prost_reflect_tables.specs.Rows.{MessageRow, field_row, message_row};
 
-use crate::lists::is_below;
 use crate::meaning::Meaning;
 use prost_reflect_base::Base;
-use prost_reflect_growth::{grown_message, sort_by_number};
+use prost_reflect_growth::{grown_message, is_below, sort_by_number};
 use prost_reflect_shared::shared_list::SharedList;
 use prost_reflect_tables::{FieldTable, MessageTable};
 use std::alloc::{AllocError, Global};

@@ -18,14 +18,15 @@ ghost use Rattle.prost_reflect_base.specs.Below.{rows_below, tables_below};
 ghost use Rattle.prost_reflect_growth.specs.RowsGrow.{grown_rows};
 ghost use Rattle.prost_reflect_resolving.specs.Indexed.{all_rows};
 ghost use Rattle.prost_reflect_shared.specs.Items.{items_of};
-ghost use Rattle.prost_reflect_tables.specs.Indexing.{empty_lists, with_item, grouped, list_rows};
+ghost use Rattle.prost_reflect_tables.specs.Indexing.{empty_lists, grouped, list_rows};
 
 use crate::grown::{grown_messages, listed_count};
-use crate::identity::{json_name, lent_identity, linked_identity};
 use crate::meaning::Meaning;
 use prost_reflect_base::Base;
 use prost_reflect_flat::{Definition, Flat, FlatEnum, FlatMessage, bool_option};
-use prost_reflect_growth::sort_by_number;
+use prost_reflect_growth::{
+    add_item, empty_lists, json_name, lent_identity, linked_identity, sort_by_number,
+};
 use prost_reflect_shared::shared_list::SharedList;
 use prost_reflect_tables::{
     Cardinality, EnumTable, EnumValueTable, FieldTable, MessageTable, OneofTable, TableKind,
@@ -153,33 +154,6 @@ fn all_fields(
     let mut extensions = extensions;
     fields.append(&mut extensions)?;
     Ok(fields)
-}
-
-/// So many empty lists.
-pub fn empty_lists<T: Drop>(alloc: Global, count: usize) -> Result<Vec<Vec<T>>, AllocError>
-    ensures { IfOk result (λ v. map (λ xs. xs.items) v.items ≡ empty_lists count) }
-{
-    let mut lists = Vec::with_capacity(alloc, count)?;
-    for _ in 0..count {
-        lists.push(Vec::new(alloc))?;
-    }
-    Ok(lists)
-}
-
-/// Adds an item to the list of a place, if there is one.
-pub fn add_item<T: Drop>(
-    lists: &mut Vec<Vec<T>>,
-    place: Option<usize>,
-    item: T,
-) -> Result<(), AllocError>
-    ensures { OnOk result (map (λ xs. xs.items) lists.new.items ≡ with_item place item 0 (map (λ xs. xs.items) lists.old.items)) }
-{
-    if let Some(place) = place {
-        if place < lists.len() {
-            lists[place].push(item)?;
-        }
-    }
-    Ok(())
 }
 
 /// Where the list of a place stands among so many lists, the first of which is that of the place `first`, or none where it has no

@@ -1,0 +1,8 @@
+mod Common
+mod Outlines
+mod GatheredFrom
+mod FileNames
+mod Pushed
+mod GrownLists
+mod MovedExtensions
+mod Merged

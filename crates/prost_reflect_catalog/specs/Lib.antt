@@ -1,0 +1,3 @@
+pub mod GatheredLists
+pub mod Outlines
+pub mod Sorts

@@ -1,6 +1,0 @@
-use Rattle.std.specs.Prelude.{◌≡◌}
-use Rattle.prost_reflect_linking.proofs.Common.{map, empty_lists}
-use Rattle.prost_reflect_linking.proofs.link.empty_lists.Given as goal
-
-abbrev pub invariant-loop : goal.invariant-loop
-invariant-loop g l = map (λ xs. xs.items) l.lists.items ≡ empty_lists l.counter
