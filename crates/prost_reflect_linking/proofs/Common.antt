@@ -9,6 +9,7 @@ pub use Rattle.prost_reflect_tables.specs.LinkedCatalog.{each_from}
 pub use Rattle.prost_reflect_tables.specs.Linking.{links_of, declared_fields, extended_place, linked_field, linked_enum, oneof_place, member_place, belonging, oneofs_from, linked_oneof, linked_value}
 pub use Rattle.prost_reflect_tables.specs.Resolved.{ResolvedRow}
 pub use Rattle.prost_reflect_tables.specs.Rows.{FieldRow, field_row, oneof_row, EnumValueRow, enum_value_row}
-pub use Rattle.prost_reflect_tables.proofs.Grouping.{more_grouped, all_grouped, groups_length, group_of, oneof_more, same_oneof, smaller_count}
+pub use Rattle.prost_reflect_tables.proofs.Grouping.{more_grouped, all_grouped, groups_length, group_of, same_oneof, smaller_count}
+pub use Rattle.prost_reflect_flat.proofs.Oneofs.{oneof_more}
 pub use Rattle.prost_reflect_resolving.specs.Indexed.{all_rows}
 pub use Rattle.prost_reflect_resolving.specs.Resolved.{resolved_row, resolved_lists}

@@ -1,5 +1,5 @@
 use Rattle.std.specs.Prelude.{◌≡◌, is_some}
-use Rattle.prost_reflect_building.proofs.Common.{List, ℕ, false, length, nat_eq, ap, sym, ◌∙◌, files_of, is_named, list_any, text_or_empty, no_length, unnamed_new}
+use Rattle.prost_reflect_building.proofs.Common.{List, ℕ, false, length, nat_eq, ap, sym, ◌∙◌, files_of, is_named, list_any, no_length, unnamed_new}
 use Rattle.prost_reflect_building.proofs.Behind.{found_there}
 use Rattle.prost_reflect_building.proofs.adding.is_known.Goals as goal
 

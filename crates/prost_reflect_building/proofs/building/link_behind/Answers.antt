@@ -1,5 +1,5 @@
-use Rattle.std.specs.Prelude.{◌≡◌, ◌++◌}
-use Rattle.prost_reflect_building.proofs.Common.{List, ap, ap₂, refl, subst, sym, ◌∙◌, map, FileDescriptorProto, FlatMessageRow, FlatRows, files_from, flattened, links_of, rows_from, TableRows}
+use Rattle.std.specs.Prelude.{◌++◌}
+use Rattle.prost_reflect_building.proofs.Common.{List, ap, ap₂, refl, subst, sym, ◌∙◌, map, FileDescriptorProto, FlatMessageRow, files_from, flattened, links_of, rows_from, TableRows}
 use Rattle.std.proofs.lemmas.Result.{err_from_is_err_and}
 use Rattle.prost_reflect_base.specs.Below.{files_below, tables_below}
 use Rattle.prost_reflect_base.specs.declared.base.Base.{Base}
