@@ -7,7 +7,6 @@ use Rattle.prost_reflect_wire.specs.Grammar.{LEVEL_LIMIT, Accepts, allows}
 use Rattle.prost_reflect_wire.specs.Meaning.{meaning, decoded}
 use Rattle.prost_reflect_wire.specs.Edit.{merged}
 use Rattle.prost_reflect_wire.specs.Writing.{records, encoded}
-use Rattle.prost_reflect_maps.specs.NumberSets.{has}
 
 -- The records mean the content to the type: it allows them with so many levels, and more change nothing.
 pub record IsMeaningOfRecords (schema : Schema) (T : ℕ) (rs : List Record) (c : Content) : Type 0 where

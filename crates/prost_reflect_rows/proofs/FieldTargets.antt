@@ -1,6 +1,6 @@
 -- What a record is read as, by the row of its number's field.
 use Rattle.std.specs.Prelude.{◌≡◌}
-use Rattle.prost_reflect_rows.proofs.Common.{ℕ, Bool, List, Option, Some, None, refl, sym, ap, ap₂, ◌∙◌, subst, true, false, true≢false, option_and_then, ScalarOf, ValueType, Singular, Field, field_of, is_message, message_of_kind, TableKind, FieldRow, schema_kind, schema_field, is_repeated, PooledType, pool_rows, known_of, oneof_of, PlainField, nested_kind, NestedField, IsTarget, target_of, names_message, Repeated, is_list, is_plain_kind, schema_at, ListField, NumberList, NestedList, element_target_of, not, is_some, checked_field, checked_list, slice_get, Enum, EnumRow, enum_kind, first_of, numbers_or_none}
+use Rattle.prost_reflect_rows.proofs.Common.{ℕ, Bool, Option, Some, None, refl, sym, ap, ap₂, ◌∙◌, subst, true, false, true≢false, option_and_then, ScalarOf, ValueType, Singular, Field, field_of, is_message, message_of_kind, TableKind, FieldRow, schema_kind, schema_field, is_repeated, PooledType, pool_rows, known_of, oneof_of, PlainField, nested_kind, NestedField, IsTarget, target_of, names_message, Repeated, is_list, is_plain_kind, schema_at, ListField, NumberList, NestedList, element_target_of, not, is_some, checked_field, checked_list, slice_get, Enum, EnumRow, enum_kind, first_of, numbers_or_none}
 use Rattle.prost_reflect_tables.specs.declared.tables.TableKind.TheVariants as kinds
 use Rattle.prost_reflect_rows.specs.declared.targets.Target.TheVariants as targets
 use Rattle.prost_reflect_rows.proofs.Described.{named_in_range, found_checked}

@@ -1,6 +1,6 @@
 -- The forms of fields, by their rows.
 use Rattle.std.specs.Prelude.{◌≡◌}
-use Rattle.prost_reflect_rows.proofs.Common.{true, false, map, Option, Some, None, refl, ap, ◌∙◌, is_some, option_map, is_map, Cardinality, FieldRow, TableRows, is_linked, form_of, schema_field, map_parts}
+use Rattle.prost_reflect_rows.proofs.Common.{true, false, Option, Some, None, refl, ap, ◌∙◌, is_some, option_map, is_map, Cardinality, FieldRow, TableRows, is_linked, form_of, schema_field, map_parts}
 use Rattle.prost_reflect_tables.specs.declared.tables.Cardinality.TheVariants.{Optional, Required, Repeated as RepeatedLabel}
 use Rattle.prost_reflect_rows.proofs.RowKinds.{no_map}
 use Rattle.prost_reflect_rows.proofs.MapRows.{shown_map}

@@ -1,6 +1,6 @@
 //! What a pool and its linked tables say of fields, kinds and records, before any value is there.
 //!
-//! Users import these from `prost_reflect`, where they see any of them at all; the crate of messages stands on this one.
+//! Users see none of these; `prost_reflect_dynamic`, the crate of descriptors, values and messages, stands on them.
 //!
 //! The crate promises: what the record behind a key is read as (`targets`) is what the schema has for its number; a path of
 //! numbers leads to the field that the schema has there (`paths`); a scalar is taken by a kind, is a field's default, and is
