@@ -37,11 +37,12 @@ pub use prost_reflect_dynamic::{
     builtin_pool,
 };
 pub use prost_reflect_pool::FileDescriptorProtos;
+pub use prost_reflect_proto::Proto;
 pub use prost_reflect_tables::{Cardinality, PoolError};
 pub use prost_reflect_types::{
     DescriptorProto, EnumDescriptorProto, EnumReservedRange, EnumValueDescriptorProto,
     ExtensionRange, FieldDescriptorProto, FileDescriptorProto, FileDescriptorSet,
-    MethodDescriptorProto, OneofDescriptorProto, Proto, ReservedRange, ServiceDescriptorProto,
+    MethodDescriptorProto, OneofDescriptorProto, ReservedRange, ServiceDescriptorProto,
 };
 pub use prost_reflect_wire::{
     DecodeError, EncodeError, FieldNumber, RECURSION_LIMIT, UnknownField, UnknownFieldSet,

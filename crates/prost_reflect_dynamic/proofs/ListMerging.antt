@@ -2,7 +2,7 @@
 use Rattle.std.specs.Prelude.{◌≡◌, ◌∷◌, ◌++◌}
 use Rattle.prost_reflect_dynamic.proofs.Common.{ℕ, Bool, true, List, [], map, Option, Some, None, refl, sym, ap, ◌∙◌, subst, unwrap_or, Vec, Global, WireType, DecodeError, AreBytes, ScalarKind, ScalarOf, Repeated, Field, known, field_of, numbers_differ, Content, ContentOf, ListValue, NoValues, Item, values_from, ◌and_then◌, schema_of, type_of, entries_of, value_at, values_in, WellStored, with_field_value, OfType, Step, ElementsRead, StandsBehindKey, field_number, IsListed, TableKind, DynamicMessage, Value, known_of, value_of, content_of, message_type_of, value_set, AddsElements, RefusesElements, JoinsElements, IsList, ListField}
 use Rattle.prost_reflect_wire.specs.Content as contents
-use Rattle.prost_reflect_types.proofs.FieldsFound.{field_stands}
+use Rattle.prost_reflect_proto.proofs.FieldsFound.{field_stands}
 use Rattle.prost_reflect_laws.proofs.ListReads.{IsOpen, stored_list, list_holds}
 use Rattle.prost_reflect_dynamic.specs.declared.value.Value as values
 use Rattle.prost_reflect_dynamic.proofs.Views.{value_of_list}

@@ -3,7 +3,7 @@ use Rattle.std.specs.Prelude.{◌≡◌, ◌^◌, ◌∷◌, ◌++◌}
 use Rattle.prost_reflect_dynamic.proofs.Common.{ℕ, ℤ, pos, Bool, true, false, cond, not, List, [], map, filter, flat_map, Option, Some, None, refl, sym, ap, ◌∙◌, subst, unwrap_or, append_assoc, append-nil, true≢false, nat_lt, list_all, lt-ltb, and_parts, and_from, WireType, DecodeError, Var, Payload, Flat, record_at, payload_valid, VarintFront, DelimitedFront, PlainFault, ScalarKind, EnumNumbers, Enum, Open, EnumNumber, low_i32, elem, is_undeclared, ScalarOf, Repeated, Field, known, field_of, numbers_differ, Content, ContentOf, Values, ScalarValue, ListValue, NoValues, values_from, ◌and_then◌, schema_of, type_of, entries_of, value_at, scalar_values, values_in, unpacked, WellStored, with_field_value, OfType, ElementFault, same_wire, Step, ElementsJoined, NumbersJoined, BodyJoined, FieldFault, ScalarFault, StandsBehindKey, declared_values, field_number, varint_plain, IsListed, and_nothing, TableKind, EnumRow, PooledType, DynamicMessage, value_set, unknown_added, IsList, IsListOrNone, NumberList, BodyTaken, JoinsNumbers, number_element, is_stray_varint, strays_in, declared_in, varints_added, numbers_taken, pool_rows, is_stray_number, content_of, message_type_of}
 use Rattle.prost_reflect_wire.specs.declared.key.WireType.TheVariants as wires
 use Rattle.prost_reflect_wire.specs.Content as contents
-use Rattle.prost_reflect_types.proofs.FieldsFound.{field_stands}
+use Rattle.prost_reflect_proto.proofs.FieldsFound.{field_stands}
 use Rattle.prost_reflect_laws.proofs.PackedElements.{packed_refused, delimited_refused, single_refused}
 use Rattle.prost_reflect_laws.proofs.NumberSteps.{declared_joined, stray_joined, packed_step, number_step}
 use Rattle.prost_reflect_dynamic.proofs.ListMerging.{listed_at, values_or}

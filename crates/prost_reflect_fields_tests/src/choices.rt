@@ -2,8 +2,9 @@
 
 use prost_reflect_building::with_files;
 use prost_reflect_pool::{LinkedPool, PooledType};
+use prost_reflect_proto::Proto;
 use prost_reflect_samples::sets;
-use prost_reflect_types::{FileDescriptorSet, Proto};
+use prost_reflect_types::FileDescriptorSet;
 use std::alloc::Global;
 use std::rc::Rc;
 use std::test::Fail;

@@ -8,7 +8,7 @@ pub use Rattle.std.specs.Str.{bytes_eq}
 pub use Rattle.std.specs.declared.alloc.Global.{Global}
 pub use Rattle.std.specs.declared.cmp.Ordering.{Ordering}
 pub use Rattle.std.specs.declared.rc.Rc.{Rc}
-pub use Rattle.std.proofs.Common.{Bool, List, None, Ok, Option, Some, String, Vec, [], add-one, ap, ap₂, arith, cond, drop, drop-cons, false, get_or, length, length-drop, map, nat_eq, not, of_z, pos, refl, rules, subst, suc, sym, take, to_z, true, true≢false, w32, zero, zero-add, ℕ, ℤ, ◌∙◌}
+pub use Rattle.std.proofs.Common.{Bool, List, None, Option, Some, String, Vec, [], add-one, ap, ap₂, arith, cond, drop, drop-cons, false, get_or, length, length-drop, map, nat_eq, not, of_z, pos, refl, rules, subst, suc, sym, take, to_z, true, true≢false, w32, zero, zero-add, ℕ, ℤ, ◌∙◌}
 pub use Rattle.std.proofs.Math.Facts.{to_z-of_z}
 pub use Rattle.std.proofs.lemmas.Bool.{and_parts, eqb-true, false_from_ne_true, not-true, or_from, or_parts}
 pub use Rattle.std.proofs.lemmas.List.{append-nil, append_assoc, append_cancel_right, length-map, take_all}

@@ -13,7 +13,7 @@ mod ValuePlaces
 pub mod ExtensionPlaces
 pub mod UniqueNames
 mod ExtensionLookups
-mod OwnEncoding
+pub mod OwnEncoding
 pub mod EqualDescriptors
 pub mod EqualTypes
 pub mod PoolRanges

@@ -1,15 +1,15 @@
 -- Of bytes that mean a pool's files an equal pool is made, unless memory runs out.
 use Rattle.std.specs.Prelude.{◌≡◌, ◌≤◌, ◌∷◌}
-use Rattle.prost_reflect_pool.proofs.Common.{ℕ, List, [], map, Some, Ok, refl, sym, ap, subst, ◌∙◌, AllZip, of_file, of_files, of_records, FileDescriptorProto, added, Checked, flattened, PoolError, checked_of, files_of, pool_rows, contents_of, pool_contents, Reads, IsPoolOfBytes, RefusesRead, Refuses, MakesAgain, LinkedPool}
+use Rattle.prost_reflect_pool.proofs.Common.{ℕ, List, [], map, Some, refl, sym, ap, subst, ◌∙◌, AllZip, of_file, of_files, of_records, FileDescriptorProto, added, Checked, flattened, PoolError, checked_of, files_of, pool_rows, contents_of, pool_contents, Reads, IsPoolOfBytes, RefusesRead, Refuses, MakesAgain, LinkedPool}
 use Rattle.std.specs.Bool.{⊤}
 use Rattle.prost_reflect_wire.specs.Varint.{AreBytes}
 use Rattle.prost_reflect_wire.specs.Grammar.{LEVEL_LIMIT}
-use Rattle.prost_reflect_wire.specs.Content.{Content, entries_of}
+use Rattle.prost_reflect_wire.specs.Content.{entries_of}
 use Rattle.prost_reflect_wire.specs.Levels.{levels}
 use Rattle.prost_reflect_wire.specs.Writing.{encoded}
 use Rattle.prost_reflect_types.specs.declared.table.RecordType.TheVariants as types
 use Rattle.prost_reflect_types.proofs.EqualContents.{SameFile, file_same, zip_same}
-use Rattle.prost_reflect_types.proofs.NestedRecords.{ok_accepts}
+use Rattle.prost_reflect_types.proofs.DecodedRecords.{decoded_accepts}
 use Rattle.prost_reflect_types.proofs.SameFields.{records_same}
 use Rattle.prost_reflect_types.proofs.SameRecords.{each_same}
 use Rattle.prost_reflect_tables.specs.FileLaws.{SameContents}
@@ -40,16 +40,18 @@ equal_again bytes pool again reads made =
 
 -- WHY NONE IS REFUSED
 
+pub own_checked : (pool : LinkedPool) → Checked (files_of pool) (flattened (files_of pool))
+own_checked pool = checked_of (files_of pool) (pool_rows pool) pool.built
+
 batch_unrefused : (bytes : List ℕ) (pool : LinkedPool) (e : PoolError) → Reads types.FileSet bytes (files_of pool) → RefusesRead types.FileSet bytes [] e → e ≡ errors.OutOfMemory
 batch_unrefused bytes pool e reads r =
     let same = read_same bytes r.batch (files_of pool) r.reads reads in
-    let checked : Checked (files_of pool) (flattened (files_of pool)) = checked_of (files_of pool) (pool_rows pool) pool.built in
-    let all : Checked r.batch (flattened r.batch) = (equal_checks r.batch (files_of pool) same).1 checked in
+    let all : Checked r.batch (flattened r.batch) = (equal_checks r.batch (files_of pool) same).1 (own_checked pool) in
     r.refuses.unchecked (subst (λ (files : List FileDescriptorProto). Checked files (flattened files)) (sym (batch_taken pool r.batch same)) all)
 
 unrefused : (bytes : List ℕ) (pool : LinkedPool) → Reads types.FileSet bytes (files_of pool) → AreBytes bytes → (e : PoolError) → Refuses types.FileSet bytes [] e → e ≡ errors.OutOfMemory
 unrefused bytes pool reads small errors.OutOfMemory r = refl
-unrefused bytes pool reads small (errors.Decode d) r = absurd (r.unread (ok_accepts LEVEL_LIMIT types.FileSet bytes (λ (c : Content). c) (Ok (of_files (files_of pool))) small reads))
+unrefused bytes pool reads small (errors.Decode d) r = absurd (r.unread (decoded_accepts LEVEL_LIMIT types.FileSet bytes (of_files (files_of pool)) small reads))
 unrefused bytes pool reads small errors.MissingName r = batch_unrefused bytes pool errors.MissingName reads r
 unrefused bytes pool reads small errors.DuplicateName r = batch_unrefused bytes pool errors.DuplicateName reads r
 unrefused bytes pool reads small errors.UnknownSyntax r = batch_unrefused bytes pool errors.UnknownSyntax reads r

@@ -3,9 +3,10 @@
 use prost_reflect_building::with_files;
 use prost_reflect_flat::{Flat, FlatMessage, flattened};
 use prost_reflect_pool::LinkedPool;
+use prost_reflect_proto::Proto;
 use prost_reflect_samples::leaked;
 use prost_reflect_tables::{Catalog, FieldTable, Identity, MessageTable, Tables};
-use prost_reflect_types::{FileDescriptorProto, Proto};
+use prost_reflect_types::FileDescriptorProto;
 use std::alloc::{AllocError, Global};
 use std::test::Fail;
 

@@ -3,7 +3,7 @@
 ghost use Rattle.std.specs.Prelude.{◌≡◌, IfOk, map};
 ghost use Rattle.prost_reflect_types.specs.DescriptorViews.{of_text, of_bytes, of_texts, of_numbers, of_extension_range, of_reserved_range, of_field, of_oneof, of_enum_reserved_range, of_enum_value, of_enum, of_method, of_service, of_message, of_file, of_file_set};
 
-use crate::proto::OwnedProto;
+use crate::content::OwnedRecord;
 use crate::{
     DescriptorProto, EnumDescriptorProto, EnumReservedRange, EnumValueDescriptorProto,
     ExtensionRange, FieldDescriptorProto, FileDescriptorProto, FileDescriptorSet,
@@ -41,13 +41,13 @@ fn copy_numbers(values: &Vec<i32>) -> Result<Vec<i32>, AllocError>
     values.clone()
 }
 
-fn copy_record<P: OwnedProto>(value: &P) -> Result<P, AllocError>
+fn copy_record<P: OwnedRecord>(value: &P) -> Result<P, AllocError>
     ensures { IfOk result (λ copied. P.content copied ≡ P.content value.now) }
 {
     value.clone()
 }
 
-fn copy_records<P: OwnedProto>(records: &Vec<P>) -> Result<Vec<P>, AllocError>
+fn copy_records<P: OwnedRecord>(records: &Vec<P>) -> Result<Vec<P>, AllocError>
     ensures { IfOk result (λ copied. map P.content copied.items ≡ map P.content records.now.items) }
 {
     let mut copied = Vec::with_capacity(*records.allocator(), records.len())?;

@@ -4,7 +4,7 @@ ghost use Rattle.std.specs.Prelude.{◌≡◌, ◌↔◌, IsTrue, map};
 ghost use Rattle.prost_reflect_wire.specs.ContentEquality.{content_eq, seen_eq_laws};
 ghost use Rattle.prost_reflect_types.specs.DescriptorViews.{of_text, of_number, of_flag, of_bytes, of_texts, of_numbers, of_records, of_extension_range, of_reserved_range, of_field, of_oneof, of_enum_reserved_range, of_enum_value, of_enum, of_method, of_service, of_message, of_file, of_file_set};
 
-use crate::proto::OwnedProto;
+use crate::content::OwnedRecord;
 use crate::{
     DescriptorProto, EnumDescriptorProto, EnumReservedRange, EnumValueDescriptorProto,
     ExtensionRange, FieldDescriptorProto, FileDescriptorProto, FileDescriptorSet,
@@ -47,13 +47,13 @@ fn equal_numbers(a: &Vec<i32>, b: &Vec<i32>) -> bool
     a == b
 }
 
-fn equal_record<P: OwnedProto>(a: &P, b: &P) -> bool
+fn equal_record<P: OwnedRecord>(a: &P, b: &P) -> bool
     ensures { IsTrue result ↔ (P.content a.now ≡ P.content b.now) }
 {
     a == b
 }
 
-fn equal_records<P: OwnedProto>(a: &Vec<P>, b: &Vec<P>) -> bool
+fn equal_records<P: OwnedRecord>(a: &Vec<P>, b: &Vec<P>) -> bool
     ensures { IsTrue result ↔ (of_records (map P.content a.now.items) ≡ of_records (map P.content b.now.items)) }
 {
     if a.len() != b.len() {
@@ -122,7 +122,7 @@ impl Comparison {
         }
     }
 
-    fn records<P: OwnedProto>(&mut self, a: &Vec<P>, b: &Vec<P>)
+    fn records<P: OwnedRecord>(&mut self, a: &Vec<P>, b: &Vec<P>)
         ensures { IsTrue self.new.equal ↔ (IsTrue self.old.equal × (of_records (map P.content a.now.items) ≡ of_records (map P.content b.now.items))) }
     {
         if self.equal {

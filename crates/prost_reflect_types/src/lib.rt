@@ -1,24 +1,16 @@
 //! The structs of a descriptor set: files, messages, fields, enums, services and what they consist of, as
-//! `descriptor.proto` of Protocol Buffers declares them. `Proto` reads, writes and measures them.
+//! `descriptor.proto` of Protocol Buffers declares them. `Proto` of `prost_reflect_proto` reads, writes and measures them.
 //!
 //! Options and source information are kept as the bytes that they are written in.
 #![tactic(auto)]
 
-mod body;
+mod content;
 mod copy;
-mod encoding;
 mod equality;
-pub mod examples;
-mod field_writing;
-mod fields;
-mod proto;
-mod shared;
 mod table;
-mod values;
-mod writing;
 
-pub use proto::Proto;
-pub use shared::encode_files;
+pub use content::{HasContent, OwnedRecord};
+pub use table::{FieldKind, RecordType};
 
 /// The files that a compiler was given, each behind those that it depends on.
 #[derive(Debug, Drop)]

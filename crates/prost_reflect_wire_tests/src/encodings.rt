@@ -1,10 +1,11 @@
 //! Each descriptor record with all its fields, as `protoc` writes them: read, written again, and copied; and records of
 //! files that are written in other bytes than they were read from.
 
+use prost_reflect_proto::Proto;
 use prost_reflect_types::{
     DescriptorProto, EnumDescriptorProto, EnumReservedRange, EnumValueDescriptorProto,
     ExtensionRange, FieldDescriptorProto, FileDescriptorProto, FileDescriptorSet,
-    MethodDescriptorProto, OneofDescriptorProto, Proto, ReservedRange, ServiceDescriptorProto,
+    MethodDescriptorProto, OneofDescriptorProto, ReservedRange, ServiceDescriptorProto,
 };
 use std::alloc::{AllocError, Global};
 use std::test::Fail;

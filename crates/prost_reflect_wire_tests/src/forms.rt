@@ -1,7 +1,8 @@
 //! Unknown fields of each form, short and long, and records with long lists.
 
 use crate::encodings::is_behind;
-use prost_reflect_types::{FileDescriptorSet, Proto};
+use prost_reflect_proto::Proto;
+use prost_reflect_types::FileDescriptorSet;
 use prost_reflect_wire::{
     RECURSION_LIMIT, UnknownField, UnknownFieldSet, UnknownFieldValue, decode_key, decode_value,
 };

@@ -1,9 +1,10 @@
 //! Descriptor records from compilers and by hand: what is read of them, and what is refused.
 
+use prost_reflect_proto::Proto;
 use prost_reflect_types::{
     DescriptorProto, EnumDescriptorProto, EnumReservedRange, EnumValueDescriptorProto,
     ExtensionRange, FieldDescriptorProto, FileDescriptorProto, FileDescriptorSet,
-    MethodDescriptorProto, OneofDescriptorProto, Proto, ReservedRange, ServiceDescriptorProto,
+    MethodDescriptorProto, OneofDescriptorProto, ReservedRange, ServiceDescriptorProto,
 };
 use prost_reflect_wire::{BackBuffer, DecodeError, EncodeError};
 use std::alloc::Global;

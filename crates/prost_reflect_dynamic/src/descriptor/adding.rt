@@ -10,8 +10,9 @@ ghost use Rattle.prost_reflect_pool.specs.SharedPools.{files_of};
 use crate::descriptor::DescriptorPool;
 use prost_reflect_building::with_files;
 use prost_reflect_pool::LinkedPool;
+use prost_reflect_proto::Proto;
 use prost_reflect_tables::PoolError;
-use prost_reflect_types::{FileDescriptorProto, FileDescriptorSet, Proto};
+use prost_reflect_types::{FileDescriptorProto, FileDescriptorSet};
 use std::alloc::Global;
 use std::rc::Rc;
 

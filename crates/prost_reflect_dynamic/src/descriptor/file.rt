@@ -9,8 +9,9 @@ use crate::descriptor::{
     ServiceDescriptor,
 };
 use crate::message::DynamicMessage;
+use prost_reflect_proto::Proto;
 use prost_reflect_tables::{FileTable, text_or_empty};
-use prost_reflect_types::{FileDescriptorProto, Proto};
+use prost_reflect_types::FileDescriptorProto;
 use prost_reflect_walks::Places;
 use prost_reflect_wire::EncodeError;
 use std::alloc::{AllocError, Global};

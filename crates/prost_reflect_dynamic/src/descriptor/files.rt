@@ -14,6 +14,7 @@ ghost use Rattle.prost_reflect_pool.specs.SharedPools.{files_of};
 
 use crate::descriptor::DescriptorPool;
 use prost_reflect_pool::FileDescriptorProtos;
+use prost_reflect_proto::encode_files;
 use prost_reflect_wire::EncodeError;
 use std::alloc::Global;
 
@@ -40,7 +41,7 @@ impl DescriptorPool {
         ensures checked { Checked (files_of self.now.inner) (flattened (files_of self.now.inner)) }
         ensures again { OnOk result (levels (of_files (files_of self.now.inner)) ≤ LEVEL_LIMIT → MakesAgain (encoded (of_files (files_of self.now.inner))) self.now.inner.value) }
     {
-        self.inner.encode(out)
+        encode_files(self.inner.shared_files(), out)
     }
 
     /// The encoding of the descriptor set that has the pool's files, as `encode`.
@@ -55,6 +56,8 @@ impl DescriptorPool {
         ensures checked { Checked (files_of self.now.inner) (flattened (files_of self.now.inner)) }
         ensures again { OnOk result (levels (of_files (files_of self.now.inner)) ≤ LEVEL_LIMIT → MakesAgain (encoded (of_files (files_of self.now.inner))) self.now.inner.value) }
     {
-        self.inner.encode_to_vec(alloc)
+        let mut bytes = Vec::new(alloc);
+        self.encode(&mut bytes)?;
+        Ok(bytes)
     }
 }

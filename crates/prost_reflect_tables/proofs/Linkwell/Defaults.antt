@@ -3,7 +3,7 @@ use Rattle.std.specs.Prelude.{◌≡◌, ◌-◌, ◌^◌, ◌∷◌}
 use Rattle.prost_reflect_tables.proofs.Common.{ℕ, ℤ, Bool, true, false, cond, not, List, [], map, length, Option, Some, None, option_map, refl, sym, ap, ◌∙◌, subst, arith, slice_get, string_bytes, String, nat_eq, nat_lt, is_utf8, chars, list_any, list_all, int_eq, and_from, and_parts, or_left, lt-ltb, Decides-int_eq, slice_get-map, Scalar, Boolean, I32, I64, U32, U64, F32, F64, Text, Bytes, EnumNumber, ScalarKind, Open, Closed, in_i32, scalar_valid, ScalarOf, Schema, kind_valid, default_valid, FieldDescriptorProto, EnumValueDescriptorProto, TableKind, EnumValueRow, EnumRow, first_number, enum_kind, schema_kind, schema_default, signed, up_to, whole_number, float_bits, binary32, binary64, boolean, unescaped, number_named, written_default, field_default, DefinitionRow, FlatEnumRow, FlatRows, links_of, linked_kind, linked_default, linked_value, linked_enum, linked_rows, value_number, values_of_kind}
 use Rattle.std.proofs.Common.{Global}
 use Rattle.prost_reflect_laws.proofs.Spelt.{text_bytes}
-use Rattle.prost_reflect_types.proofs.SoundFields.{text_valid}
+use Rattle.std.proofs.lemmas.Str.{IsUtf8-string_bytes, is_utf8-from_IsUtf8}
 use Rattle.prost_reflect_wire.specs.Scalar as scalars
 use Rattle.prost_reflect_tables.specs.declared.tables.TableKind.TheVariants as kinds
 use Rattle.prost_reflect_tables.proofs.Linkwell.Premises.{EnumChecked}
@@ -21,6 +21,9 @@ fits_32 o n is = lt-ltb n (2 ^ 32) (omega (arith, up_to_limit (2 ^ 32 - 1) o n i
 
 fits_64 : (o : Option ℕ) (n : ℕ) → up_to (2 ^ 64 - 1) o ≡ Some n → nat_lt n (2 ^ 64) ≡ true
 fits_64 o n is = lt-ltb n (2 ^ 64) (omega (arith, up_to_limit (2 ^ 64 - 1) o n is))
+
+text_valid : (t : String Global) → is_utf8 (string_bytes t) ≡ true
+text_valid t = is_utf8-from_IsUtf8 (string_bytes t) (IsUtf8-string_bytes t)
 
 text_is : (text : List ℕ) (v : Scalar) → is_utf8 text ≡ true → Some (Text text) ≡ Some v → scalar_valid scalars.StringKind v ≡ true
 text_is text v utf8 e = let same : Text text ≡ v = cc in subst (λ (s : Scalar). scalar_valid scalars.StringKind s ≡ true) same utf8

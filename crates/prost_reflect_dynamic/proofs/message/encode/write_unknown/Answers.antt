@@ -1,5 +1,5 @@
 use Rattle.prost_reflect_dynamic.proofs.Common.{sym, adds_same}
-use Rattle.prost_reflect_types.proofs.FieldBytes.{adds_none}
+use Rattle.prost_reflect_proto.proofs.FieldBytes.{adds_none}
 use Rattle.prost_reflect_dynamic.proofs.Encodings.{unknown_written, unknown_nothing}
 use Rattle.prost_reflect_dynamic.proofs.message.encode.write_unknown.Goals as goal
 

@@ -1,0 +1,12 @@
+use Rattle.prost_reflect_proto.proofs.Common.{refl}
+use Rattle.prost_reflect_types.specs.declared.table.RecordType.TheVariants as types
+use Rattle.prost_reflect_types.proofs.RecordSlots.{enum_reserved_range_slots}
+use Rattle.prost_reflect_proto.proofs.RecordBytes.{record_adds}
+use Rattle.prost_reflect_proto.proofs.SoundRecords.{record_sound}
+use Rattle.prost_reflect_proto.proofs.writing.EnumReservedRangeWriteProto.write.Goals as goal
+
+pub returns-clause-added : goal.returns-clause-added
+returns-clause-added g c = record_adds g.S.Sink.added _ _ types.EnumReservedRange (enum_reserved_range_slots c.args.self.now) (refl, (refl, tt)) (λ start done h. c.write_number-2.ensures.added _ _ (c.write_number.ensures.added _ _ h))
+
+pub returns-clause-sound : goal.returns-clause-sound
+returns-clause-sound g c = record_sound types.EnumReservedRange (enum_reserved_range_slots c.args.self.now) (refl, (refl, tt)) refl (c.write_number-2.ensures.sound, (c.write_number.ensures.sound, tt))

@@ -1,0 +1,13 @@
+use Rattle.prost_reflect_proto.proofs.Common.{refl}
+use Rattle.prost_reflect_types.specs.declared.table.RecordType.TheVariants as types
+use Rattle.prost_reflect_types.proofs.RecordSlots.{oneof_slots}
+use Rattle.prost_reflect_proto.proofs.RecordBytes.{record_adds}
+use Rattle.prost_reflect_proto.proofs.SoundFields.{text_sound}
+use Rattle.prost_reflect_proto.proofs.SoundRecords.{record_sound}
+use Rattle.prost_reflect_proto.proofs.writing.OneofDescriptorProtoWriteProto.write.Goals as goal
+
+pub returns-clause-added : goal.returns-clause-added
+returns-clause-added g c = record_adds g.S.Sink.added _ _ types.Oneof (oneof_slots c.args.self.now) (refl, (refl, tt)) (λ start done h. c.write_text.ensures _ _ (c.write_bytes.ensures.added _ _ h))
+
+pub returns-clause-sound : goal.returns-clause-sound
+returns-clause-sound g c = record_sound types.Oneof (oneof_slots c.args.self.now) (refl, (refl, tt)) refl (text_sound _, (c.write_bytes.ensures.sound, tt))

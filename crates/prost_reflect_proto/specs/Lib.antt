@@ -1,0 +1,4 @@
+pub mod DescriptorSound
+pub mod DescriptorWriting
+pub mod DescriptorReading
+pub mod DescriptorExamples

@@ -1,8 +1,0 @@
-use Rattle.std.specs.Prelude.{◌≡◌}
-use Rattle.prost_reflect_types.proofs.Common.{arith}
-use Rattle.prost_reflect_types.proofs.FieldBytes.{adds_same, texts_field}
-use Rattle.prost_reflect_types.proofs.field_writing.write_texts.Goals as goal
-
-pub returns : goal.returns
-returns g c = let first : c.loop-index.index ≡ 0 = omega arith in
-    adds_same g.S.Sink.added _ _ _ _ (texts_field _ _) (rw first at c.loop-index.invariant)

@@ -1,8 +1,0 @@
-//! The worked examples of the records of a descriptor set.
-
-ghost use Rattle.prost_reflect_types.specs.DescriptorExamples.{Descriptors};
-
-/// The worked examples of the records of a descriptor set hold.
-pub fn worked_descriptors()
-    ensures { Descriptors }
-{}
