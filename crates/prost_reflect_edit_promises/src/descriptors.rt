@@ -8,7 +8,7 @@ ghost use Rattle.prost_reflect_dynamic.specs.NamedFields.{descriptor_fields};
 ghost use Rattle.prost_reflect_dynamic.specs.NamedRecords.{message_record_named};
 ghost use Rattle.prost_reflect_dynamic.specs.Options.{OptionsOf};
 
-use prost_reflect::{DynamicMessage, FieldDescriptor, MessageDescriptor, OptionsError};
+use prost_reflect_dynamic::{DynamicMessage, FieldDescriptor, MessageDescriptor, OptionsError};
 use std::alloc::AllocError;
 
 /// The package, the enclosing message types and the name, joined by dots.

@@ -11,7 +11,7 @@ ghost use Rattle.prost_reflect_dynamic.specs.Setting.{RefusesFound};
 ghost use Rattle.prost_reflect_dynamic.specs.ValueLists.{had_pairs};
 ghost use Rattle.prost_reflect_dynamic.specs.View.{content_of, message_type_of, value_of};
 
-use prost_reflect::{DynamicMessage, FieldDescriptor, SetFieldError, TakenFields, Value};
+use prost_reflect_dynamic::{DynamicMessage, FieldDescriptor, SetFieldError, TakenFields, Value};
 use std::alloc::{AllocError, Global};
 
 /// Clears a field.

@@ -11,7 +11,9 @@ ghost use Rattle.prost_reflect_dynamic.specs.View.{message_type_of};
 ghost use Rattle.prost_reflect_dynamic.specs.declared.message.DynamicMessage.{size-DynamicMessage};
 ghost use Rattle.prost_reflect_dynamic.specs.declared.value.Value.{size-Value};
 
-use prost_reflect::{DynamicMessage, ExtensionDescriptor, FieldDescriptor, GetFieldError, Value};
+use prost_reflect_dynamic::{
+    DynamicMessage, ExtensionDescriptor, FieldDescriptor, GetFieldError, Value,
+};
 use std::alloc::{AllocError, Global};
 
 /// Takes the value of a field, as a part of the message. Where the message could be written, the value fits the field and the

@@ -12,10 +12,11 @@ ghost use Rattle.prost_reflect_pool.specs.SharedPools.{files_of, pool_contents, 
 ghost use Rattle.prost_reflect_tables.specs.Places.{message_place};
 ghost use Rattle.prost_reflect_dynamic.specs.NamedFiles.{file_record_at};
 
-use prost_reflect::{
-    DecodeError, DescriptorPool, FileDescriptor, FileDescriptorProto, MessageDescriptor, PoolError,
-    Proto,
-};
+use prost_reflect_dynamic::{DescriptorPool, FileDescriptor, MessageDescriptor};
+use prost_reflect_proto::Proto;
+use prost_reflect_tables::PoolError;
+use prost_reflect_types::FileDescriptorProto;
+use prost_reflect_wire::DecodeError;
 use std::alloc::{AllocError, Global};
 
 /// Adds the files of a batch, all of them or none.

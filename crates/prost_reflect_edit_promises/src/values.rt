@@ -8,7 +8,7 @@ ghost use Rattle.prost_reflect_dynamic.specs.NamedDefaults.{default_named};
 ghost use Rattle.prost_reflect_dynamic.specs.NamedKinds.{is_key_kind, table_kind, values_named};
 ghost use Rattle.prost_reflect_dynamic.specs.View.{key_of, value_of};
 
-use prost_reflect::{Kind, MapKey, Value};
+use prost_reflect_dynamic::{Kind, MapKey, Value};
 use std::alloc::{AllocError, Global};
 
 /// The default of a kind: zero, false or empty, the first declared number of an enum, or an empty message.

@@ -11,7 +11,7 @@ ghost use Rattle.prost_reflect_dynamic.specs.UnknownLists.{all_unknown, unknown_
 ghost use Rattle.prost_reflect_dynamic.specs.ValueLists.{fields_left, had_pairs};
 ghost use Rattle.prost_reflect_dynamic.specs.View.{content_of, message_type_of, stored_in};
 
-use prost_reflect::{
+use prost_reflect_dynamic::{
     DynamicMessage, ExtensionDescriptor, FieldDescriptor, Fields, UnknownFields, Value,
 };
 use std::alloc::{AllocError, Global};

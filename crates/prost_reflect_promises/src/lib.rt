@@ -8,14 +8,13 @@
 //! the gate would have to prove the largest crate twice. `prost_reflect_edit_promises` has the calls that change messages, and
 //! those of values, descriptors and pools.
 //!
-//! Begin with `reading`, which says what bytes mean; `writing` and `relaying` make bytes again, `asking` has what a message is
-//! asked, and `nesting` what it and its values show of what is inside.
+//! Begin with `reading`, which says what bytes mean; `writing` makes bytes again, `asking` has what a message is asked, and
+//! `nesting` what it and its values show of what is inside. Relaying has its edits in `prost_reflect`, whose functions relay.
 #![tactic(auto)]
 
 mod asking;
 mod nesting;
 mod reading;
-mod relaying;
 mod writing;
 
 pub use asking::{
@@ -23,5 +22,4 @@ pub use asking::{
 };
 pub use nesting::{elements, fields_inside, part_shown, shown_inside};
 pub use reading::{merge, read, read_in_pieces};
-pub use relaying::relay_bytes;
 pub use writing::{write, written_len};

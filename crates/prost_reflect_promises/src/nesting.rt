@@ -13,7 +13,7 @@ ghost use Rattle.prost_reflect_dynamic.specs.Variants.{list_in};
 ghost use Rattle.prost_reflect_dynamic.specs.View.{message_type_of};
 ghost use Rattle.prost_reflect_dynamic.specs.declared.value.Value.{out-Value, size-Value};
 
-use prost_reflect::{DynamicMessage, ExtensionDescriptor, FieldDescriptor, Fields, Value};
+use prost_reflect_dynamic::{DynamicMessage, ExtensionDescriptor, FieldDescriptor, Fields, Value};
 use std::alloc::{AllocError, Global};
 use std::borrow::Cow;
 

@@ -10,7 +10,8 @@ ghost use Rattle.prost_reflect_dynamic.specs.Merged.{IsMeaningOfBytes, MergesMea
 ghost use Rattle.prost_reflect_dynamic.specs.Named.{schema_named, type_named};
 ghost use Rattle.prost_reflect_dynamic.specs.View.{content_of, message_type_of};
 
-use prost_reflect::{DecodeError, DynamicMessage, MessageDescriptor};
+use prost_reflect_dynamic::{DynamicMessage, MessageDescriptor};
+use prost_reflect_wire::DecodeError;
 use std::alloc::Global;
 
 /// What the bytes mean to the message type.

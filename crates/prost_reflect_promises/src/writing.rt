@@ -6,7 +6,8 @@ ghost use Rattle.prost_reflect_wire.specs.Typing.{encodable, kept};
 ghost use Rattle.prost_reflect_wire.specs.Writing.{encoded};
 ghost use Rattle.prost_reflect_dynamic.specs.View.{content_of};
 
-use prost_reflect::{DynamicMessage, EncodeError};
+use prost_reflect_dynamic::DynamicMessage;
+use prost_reflect_wire::EncodeError;
 use std::alloc::Global;
 
 /// The encoding of the message.
