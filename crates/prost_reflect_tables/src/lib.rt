@@ -4,7 +4,8 @@
 //! All definitions of checks and of linking stand here, in `specs/`, so that a reader finds in one place what is wrong with files
 //! and what they link to: the definitions of files in flat lists (`specs/Flat`), the faults (`specs/Checked`), and what tables and
 //! the catalog are linked to (`specs/Linking`, `specs/LinkedCatalog`). `prost_reflect_flat` makes the flat lists,
-//! `prost_reflect_checks` and `prost_reflect_linking` compute the rest.
+//! `prost_reflect_definition_checks` and `prost_reflect_checks` compute the faults, `prost_reflect_linking` the tables, and
+//! `prost_reflect_catalog` the catalog.
 //!
 //! Begin with `tables` and `catalog`, the rows; `lookup` finds what stands at a place. `kinds` and `names` read what definitions
 //! write of types and of names, and `error` says why files are refused.
