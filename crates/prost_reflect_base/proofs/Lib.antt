@@ -1,7 +1,7 @@
 mod Lists
 mod Scopes
 mod NamesInside
-mod Linked
+pub mod Linked
 mod Numbers
 mod FullNames
 mod NamedPlaces

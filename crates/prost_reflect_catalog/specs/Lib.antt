@@ -1,3 +1,1 @@
-pub mod GatheredLists
 pub mod Outlines
-pub mod Sorts

@@ -16,18 +16,17 @@ ghost use Rattle.prost_reflect_tables.specs.Linking.{links_of};
 ghost use Rattle.prost_reflect_tables.specs.Resolved.{resolve};
 ghost use Rattle.prost_reflect_tables.specs.Schema.{rows_of};
 
-use crate::extensions::{Extended, all_extended, linked_extensions};
-use crate::files::linked_files;
-use crate::lists::{InnerPlaces, further_places, inner_places, lists_of_enums, lists_of_messages};
-use crate::merging::{Sort, merged_by_name};
-use crate::services::linked_services;
-use crate::values::merged_values;
 use prost_reflect_base::Base;
 use prost_reflect_flat::{
     Definition, Flat, FlatService, add_names, enum_names, file_names, message_names,
 };
+use prost_reflect_lists::{
+    Extended, InnerPlaces, all_extended, further_places, inner_places, linked_extensions,
+    lists_of_enums, lists_of_messages,
+};
 use prost_reflect_resolving::{Index, ResolvedField};
 use prost_reflect_shared::shared_list::SharedList;
+use prost_reflect_sorted::{Sort, linked_files, linked_services, merged_by_name, merged_values};
 use prost_reflect_tables::{Catalog, EnumLists, FileTable, ServiceTable, SortedPlaces, Tables};
 use prost_reflect_types::{FieldDescriptorProto, FileDescriptorProto};
 use std::alloc::{AllocError, Global};

@@ -8,19 +8,11 @@
 //! Promised is the grown catalog, as `prost_reflect_growth` says it (`grown_catalog`), for faulty files too, so nothing is asked
 //! of the input but what its texts mean.
 //!
-//! Begin with `catalog`. `lists` has the lists of messages and enums, `files` those of files, and `merging` the places in the order
-//! of names; `gather` finds what belongs to what, and the other modules make one list each.
+//! `prost_reflect_lists` makes the lists of messages and enums and the rows of extensions, and `prost_reflect_sorted` the lists of
+//! files, the services and the places in the order of names; `catalog` puts together what both make.
 #![tactic(auto)]
 
 mod catalog;
-mod extensions;
-mod files;
-mod gather;
-mod lists;
-mod merging;
-mod order;
-mod services;
-mod values;
 
 pub use catalog::{Outline, linked_catalog, outlined};
-pub use extensions::Extended;
+pub use prost_reflect_lists::Extended;

@@ -1,6 +1,8 @@
 mod Common
 mod Lists
 pub mod FirstPlaces
+pub mod GatheredFrom
+pub mod Pushed
 pub mod Flats
 pub mod Places
 pub mod Ordering

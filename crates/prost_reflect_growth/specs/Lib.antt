@@ -1,5 +1,6 @@
 pub mod Growth
 pub mod FirstPlaces
+pub mod GatheredFrom
 pub mod Stays
 pub mod RowsGrow
 pub mod Untouched

@@ -9,17 +9,22 @@
 //! Begin with `laws`: `rows_grow`, `checks_grow` and `catalog_grows` are what the others lead to. `grown_message` computes the
 //! row of an old message with further extensions, `moved_extension` where those that it has move, and `merged` puts what is
 //! added among what stands in order. `linked_identity` and `json_name` give what the rows of added definitions say of where these
-//! stand and what they are called, and `add_item` puts what belongs to a place into the list of it; rows and catalog are made with
+//! stand and what they are called, `add_item` puts what belongs to a place into the list of it, `gathered` makes the lists of all
+//! items that belong to some places, and `ordered_texts` and `ordered_numbers` put places in order; rows and catalog are made with
 //! them.
 #![tactic(auto)]
 
 mod belonging;
+mod gather;
 mod identity;
 pub mod laws;
 mod merge;
+mod order;
 mod rows;
 
 pub use belonging::{add_item, empty_lists, is_below};
+pub use gather::{gathered, list_at};
 pub use identity::{json_name, lent_identity, linked_identity};
 pub use merge::merged;
+pub use order::{ordered_numbers, ordered_texts, sort_by_text, text_at};
 pub use rows::{grown_message, moved_extension, sort_by_number};

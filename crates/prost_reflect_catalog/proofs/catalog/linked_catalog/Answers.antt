@@ -5,9 +5,9 @@ use Rattle.prost_reflect_growth.specs.ExtensionsGrow.{grown_extension}
 use Rattle.prost_reflect_growth.specs.RowsGrow.{grown_rows}
 use Rattle.prost_reflect_tables.specs.CatalogRows.{ExtensionRow}
 use Rattle.prost_reflect_tables.specs.Schema.{rows_of}
-use Rattle.prost_reflect_catalog.specs.Outlines.{ExtendedRow, placed, extended_row}
-use Rattle.prost_reflect_catalog.specs.declared.extensions.Extended.{Extended}
-use Rattle.prost_reflect_catalog.proofs.Outlines.{extensions_placed}
+use Rattle.prost_reflect_lists.specs.ExtendedRows.{ExtendedRow, placed, extended_row}
+use Rattle.prost_reflect_lists.specs.declared.extensions.Extended.{Extended}
+use Rattle.prost_reflect_lists.proofs.ExtendedRows.{extensions_placed}
 use Rattle.prost_reflect_catalog.proofs.catalog.linked_catalog.Goals as goal
 
 pub returns : goal.returns

@@ -3,8 +3,8 @@ use Rattle.prost_reflect_base.specs.declared.Base.{Base}
 use Rattle.prost_reflect_base.specs.Below.{catalog_below}
 use Rattle.std.specs.Prelude.{◌++◌}
 use Rattle.prost_reflect_flat.specs.declared.flatten.FlatService.{FlatService}
-use Rattle.prost_reflect_catalog.specs.Outlines.{found_extended}
-use Rattle.prost_reflect_catalog.proofs.Outlines.{extended_are}
+use Rattle.prost_reflect_lists.specs.ExtendedRows.{found_extended}
+use Rattle.prost_reflect_lists.proofs.ExtendedRows.{extended_are}
 use Rattle.prost_reflect_catalog.proofs.catalog.outlined.Goals as goal
 
 pub returns : goal.returns

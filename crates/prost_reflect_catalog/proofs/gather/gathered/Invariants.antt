@@ -1,8 +1,0 @@
-use Rattle.std.specs.Prelude.{◌≡◌, ◌+◌}
-use Rattle.prost_reflect_catalog.proofs.Common.{ℕ, Option, map, drop, behind}
-use Rattle.prost_reflect_tables.specs.Walks.{Computes}
-use Rattle.prost_reflect_catalog.specs.GatheredLists.{gathered_from}
-use Rattle.prost_reflect_catalog.proofs.gather.gathered.Given as goal
-
-abbrev pub invariant-loop-offset : goal.invariant-loop-offset
-invariant-loop-offset g l = (o : _ → Option ℕ) → Computes g.F.Fn l.owner o → behind o (l.start + l.offset) (drop l.offset l.items) l.first (map (λ xs. xs.items) l.lists.items) ≡ gathered_from o l.start l.items l.first l.count

@@ -1,7 +1,0 @@
-use Rattle.prost_reflect_catalog.proofs.Common.{◌∙◌, ap, text_list, by_text, all_shown}
-use Rattle.prost_reflect_catalog.proofs.order.ordered_texts.Goals as goal
-
-pub returns : goal.returns
-returns c =
-    let texts = text_list c.args.texts.now in
-    c.in_ok-sort_by_text.ensures ∙ ap (by_text texts) (c.in_ok-places.ensures ∙ all_shown (λ t. t.now) c.args.texts.now)

@@ -1,0 +1,4 @@
+mod Common
+pub mod ExtendedRows
+mod GrownLists
+mod MovedExtensions

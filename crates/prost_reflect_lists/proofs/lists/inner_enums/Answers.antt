@@ -1,0 +1,11 @@
+use Rattle.prost_reflect_lists.proofs.Common.{rules, arith, map, length, length-map, message_row, enum_row, FlatEnumRow}
+use Rattle.prost_reflect_growth.proofs.GatheredFrom.{shown_from}
+use Rattle.prost_reflect_lists.proofs.lists.inner_enums.Goals as goal
+
+pub returns : goal.returns
+returns c =
+    let flat = c.args.flat.now in
+    let owner = λ (e : FlatEnumRow). e.definition.parent in
+    shown_from enum_row owner flat.enums.items _ _ _ _ _ _ (length (map message_row flat.messages.items)) _ c.as_slice.ensures.value c.enum_count.ensures c.message_count.ensures
+    (omega (arith, c.len.ensures, flat.messages.ok.0, length-map flat.messages.items message_row))
+    (c.in_ok-gathered.ensures (λ x. owner (enum_row x)) (λ x r h. search rules))

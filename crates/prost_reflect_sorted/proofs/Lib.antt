@@ -1,0 +1,3 @@
+mod Common
+mod FileNames
+mod Merged
