@@ -2,8 +2,8 @@
 use Rattle.std.specs.Prelude.{ℕ, List, ◌++◌}
 use Rattle.prost_reflect_maps.specs.Items.{left_above, left_below}
 use Rattle.prost_reflect_maps.specs.Runs.{flat}
-use Rattle.prost_reflect_maps.specs.declared.sorted_map.Items.{Items}
-use Rattle.prost_reflect_maps.specs.declared.sorted_map.ItemsBack.{ItemsBack}
+use Rattle.prost_reflect_maps.specs.declared.sorted_map.walks.Items.{Items}
+use Rattle.prost_reflect_maps.specs.declared.sorted_map.walks.ItemsBack.{ItemsBack}
 use Rattle.prost_reflect_maps.specs.declared.walks.WalkUp.{WalkUp}
 use Rattle.prost_reflect_maps.specs.declared.walks.WalkDown.{WalkDown}
 

@@ -1,7 +1,7 @@
 use Rattle.std.specs.Prelude.{◌≡◌, ◌++◌}
 use Rattle.prost_reflect_maps.proofs.Common.{arith, rules, ℕ, length, sym, subst, ◌∙◌, option_to_list, into_iter_items}
 use Rattle.prost_reflect_maps.proofs.Weaving.{IsWoven, none_of, old_passed, pushed, all_walked}
-use Rattle.prost_reflect_maps.proofs.sorted_map.weave.Goals as goal
+use Rattle.prost_reflect_maps.proofs.sorted_map.weaving.weave.Goals as goal
 
 pub loop-number-preserved-then-not-contains : goal.loop-number-preserved-then-not-contains
 loop-number-preserved-then-not-contains g c =

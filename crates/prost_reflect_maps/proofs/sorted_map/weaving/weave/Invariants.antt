@@ -1,7 +1,7 @@
 use Rattle.std.specs.Prelude.{◌++◌, ◌+◌, ◌≤◌, ◌≡◌}
 use Rattle.prost_reflect_maps.proofs.Common.{length, vec_len, vec_capacity, IfNone, [], option_to_list, into_iter_items, into_iter_len}
 use Rattle.prost_reflect_maps.proofs.Weaving.{IsWoven}
-use Rattle.prost_reflect_maps.proofs.sorted_map.weave.Given as goal
+use Rattle.prost_reflect_maps.proofs.sorted_map.weaving.weave.Given as goal
 
 abbrev pub invariant-loop-number : goal.invariant-loop-number
 invariant-loop-number g l = record {

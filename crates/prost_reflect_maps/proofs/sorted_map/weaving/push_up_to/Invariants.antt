@@ -1,6 +1,6 @@
 use Rattle.std.specs.Prelude.{◌≡◌, ◌++◌, ◌+◌, ◌≤◌}
 use Rattle.prost_reflect_maps.proofs.Common.{length, vec_len, vec_capacity, IfNone, [], option_to_list, into_iter_items, into_iter_len, has, chosen_up_to, left_beyond}
-use Rattle.prost_reflect_maps.proofs.sorted_map.push_up_to.Given as goal
+use Rattle.prost_reflect_maps.proofs.sorted_map.weaving.push_up_to.Given as goal
 
 -- what is behind the items, with what the rest gives, is what the whole gives
 abbrev pub invariant-loop-next : goal.invariant-loop-next

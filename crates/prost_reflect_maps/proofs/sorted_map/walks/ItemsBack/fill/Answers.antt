@@ -2,7 +2,7 @@ use Rattle.std.specs.Prelude.{◌≡◌, ◌++◌}
 use Rattle.prost_reflect_maps.proofs.Common.{rules, length, sym, ap, ◌∙◌, append-nil, flat}
 use Rattle.prost_reflect_maps.proofs.Weaving.{none_of}
 use Rattle.prost_reflect_maps.proofs.RunChanges.{last_run}
-use Rattle.prost_reflect_maps.proofs.sorted_map.ItemsBack.fill.Goals as goal
+use Rattle.prost_reflect_maps.proofs.sorted_map.walks.ItemsBack.fill.Goals as goal
 
 pub loop-run-preserved : goal.loop-run-preserved
 loop-run-preserved g c =
