@@ -5,7 +5,8 @@ use Rattle.std.proofs.lemmas.List.Elements.{filter-append, filter_agree}
 use Rattle.std.specs.declared.ops.Bound.TheVariants.{Excluded, Unbounded}
 use Rattle.std_collections.specs.BTreeMap.Range.{range_contains}
 use Rattle.prost_reflect_maps.proofs.Places.{further}
-use Rattle.prost_reflect_maps.proofs.RunChanges.{AllBelow, IsRunOf, above, parts}
+use Rattle.prost_reflect_maps.proofs.RunPlaces.{AllBelow, IsRunOf}
+use Rattle.prost_reflect_maps.proofs.RunChanges.{above, parts}
 use Rattle.prost_reflect_maps.proofs.Weaving.{AllAbove}
 
 -- each order says on which side a number stands

@@ -4,6 +4,7 @@ pub mod Places
 pub mod ItemChanges
 mod Weaving
 pub mod Moving
+mod RunPlaces
 mod RunChanges
 mod Bounds
 mod Above

@@ -2,7 +2,8 @@ use Rattle.std.specs.Prelude.{◌++◌}
 use Rattle.prost_reflect_maps.proofs.Common.{[], ap, ap₂, sym, subst, ◌∙◌, IsAscending, items_below, items_from, flat}
 use Rattle.prost_reflect_maps.proofs.Bounds.{below_home, from_home, in_front_of, behind_it, from_above, below_above}
 use Rattle.prost_reflect_maps.proofs.Places.{empty_ascends}
-use Rattle.prost_reflect_maps.proofs.RunChanges.{run_found, none_found, ahead_above, own_ascends, run_got}
+use Rattle.prost_reflect_maps.proofs.RunPlaces.{run_found, none_found, ahead_above}
+use Rattle.prost_reflect_maps.proofs.RunChanges.{own_ascends, run_got}
 use Rattle.prost_reflect_maps.proofs.runs.around.Goals as goal
 
 pub returns-in-Some-clause-own : goal.returns-in-Some-clause-own

@@ -1,6 +1,7 @@
 use Rattle.prost_reflect_maps.proofs.Common.{sym, subst, ap, ◌∙◌, IsAscending}
 use Rattle.prost_reflect_maps.proofs.ItemChanges.{none_above}
-use Rattle.prost_reflect_maps.proofs.RunChanges.{run_found, none_found, ahead_above, own_ascends, run_got, item_found_in}
+use Rattle.prost_reflect_maps.proofs.RunPlaces.{run_found, none_found, ahead_above}
+use Rattle.prost_reflect_maps.proofs.RunChanges.{own_ascends, run_got, item_found_in}
 use Rattle.prost_reflect_maps.proofs.runs.get_in.Goals as goal
 
 pub get_at-requires : goal.get_at-requires

@@ -1,6 +1,7 @@
 use Rattle.std.specs.Prelude.{◌∷◌, ◌++◌}
 use Rattle.prost_reflect_maps.proofs.Common.{ℕ, [], insert, sym, subst, ap, ◌∙◌, flat, IsLaid}
-use Rattle.prost_reflect_maps.proofs.RunChanges.{none_found, put_ahead, laid_ahead, insert_first}
+use Rattle.prost_reflect_maps.proofs.RunPlaces.{none_found}
+use Rattle.prost_reflect_maps.proofs.RunChanges.{put_ahead, laid_ahead, insert_first}
 use Rattle.prost_reflect_maps.proofs.runs.put_first.Goals as goal
 
 pub returns-clause-laid : goal.returns-clause-laid

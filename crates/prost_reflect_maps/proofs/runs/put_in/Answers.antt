@@ -1,5 +1,6 @@
 use Rattle.prost_reflect_maps.proofs.Common.{sym, subst, ap, ◌∙◌, on_ok_weaker, on_err_weaker, nat_cmp, keys_of, seek, IsAscending, put_item, run_at}
-use Rattle.prost_reflect_maps.proofs.RunChanges.{run_found, own_ascends, run_got, laid_put, laid_keys, put_home, same_home}
+use Rattle.prost_reflect_maps.proofs.RunPlaces.{run_found}
+use Rattle.prost_reflect_maps.proofs.RunChanges.{own_ascends, run_got, laid_put, laid_keys, put_home, same_home}
 use Rattle.prost_reflect_maps.proofs.Results.{either}
 use Rattle.prost_reflect_maps.proofs.runs.put_in.Goals as goal
 

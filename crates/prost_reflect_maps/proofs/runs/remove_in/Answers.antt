@@ -1,6 +1,7 @@
 use Rattle.prost_reflect_maps.proofs.Common.{[], sym, subst, ap, ◌∙◌, nat_cmp, seek, IsAscending, without_item, run_at, flat}
 use Rattle.prost_reflect_maps.proofs.ItemChanges.{none_above}
-use Rattle.prost_reflect_maps.proofs.RunChanges.{run_found, none_found, ahead_above, own_ascends, run_got, laid_without, without_home, item_found_in, without_above}
+use Rattle.prost_reflect_maps.proofs.RunPlaces.{run_found, none_found, ahead_above, without_above}
+use Rattle.prost_reflect_maps.proofs.RunChanges.{own_ascends, run_got, laid_without, without_home, item_found_in}
 use Rattle.prost_reflect_maps.proofs.runs.remove_in.Goals as goal
 
 pub remove_at-requires : goal.remove_at-requires

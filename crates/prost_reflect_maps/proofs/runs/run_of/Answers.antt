@@ -1,6 +1,6 @@
 use Rattle.prost_reflect_maps.proofs.Common.{arith}
 use Rattle.prost_reflect_maps.proofs.Places.{seek_within, gap_within}
-use Rattle.prost_reflect_maps.proofs.RunChanges.{runs_ascend}
+use Rattle.prost_reflect_maps.proofs.RunPlaces.{runs_ascend}
 use Rattle.prost_reflect_maps.proofs.runs.run_of.Goals as goal
 
 pub place_in-requires : goal.place_in-requires

@@ -3,7 +3,8 @@ use Rattle.prost_reflect_maps.proofs.Common.{arith, ℕ, List, Option, option_ma
 use mathlib.Core.Logic.{inl, inr, ◌⊎◌}
 use Rattle.std.specs.Vec.{with_item as vec_with}
 use Rattle.prost_reflect_maps.proofs.ItemChanges.{none_above}
-use Rattle.prost_reflect_maps.proofs.RunChanges.{run_found, none_found, ahead_above, own_ascends, run_got, found_within, lent_keys, lent_is, lent_value, none_lent, laid_keys, with_home}
+use Rattle.prost_reflect_maps.proofs.RunPlaces.{run_found, none_found, ahead_above}
+use Rattle.prost_reflect_maps.proofs.RunChanges.{own_ascends, run_got, found_within, lent_keys, lent_is, lent_value, none_lent, laid_keys, with_home}
 use Rattle.prost_reflect_maps.proofs.runs.RunMap.get_mut.Goals as goal
 
 lent_same : {N A B C : Type 0} (n : N) (f h : A → B) → ((w : A) → f w ≡ h w) → ◌≡◌ {A = (N × (A → B)) ⊎ C} (inl (n, f)) (inl (n, h))

@@ -1,5 +1,5 @@
 use Rattle.prost_reflect_maps.proofs.Common.{ℕ, List, Option, subst, IsAscending}
-use Rattle.prost_reflect_maps.proofs.RunChanges.{flat_ascends}
+use Rattle.prost_reflect_maps.proofs.RunPlaces.{flat_ascends}
 use Rattle.prost_reflect_maps.proofs.runs.RunMap.move_items.Goals as goal
 
 pub returns-clause-ascending : goal.returns-clause-ascending
