@@ -26,6 +26,38 @@ fn append_item(out: &mut Vec<u8>, key: u8, sort: u8, place: u8) -> Result<(), Al
     let [high, low] = letters(place);
     let next = place % 64 + 1;
     match sort {
+        b'f' | b'x' | b'y' => append_field(out, key, sort, place),
+        // Enums with one value.
+        b'e' => out.extend_from_slice(&[
+            key, 14, 0x0a, 3, sort, high, low, 0x12, 7, 0x0a, 3, b'u', high, low, 0x10, 0,
+        ]),
+        b'c' => out.extend_from_slice(&[
+            key, 14, 0x0a, 3, sort, high, low, 0x12, 7, 0x0a, 3, b'w', high, low, 0x10, 0,
+        ]),
+        // A value.
+        b'v' => out.extend_from_slice(&[key, 7, 0x0a, 3, sort, high, low, 0x10, place]),
+        // A method.
+        b'g' => out.extend_from_slice(&[
+            key, 17, 0x0a, 3, sort, high, low, 0x12, 4, b'.', b'p', b'.', b'M', 0x1a, 4, b'.',
+            b'p', b'.', b'N',
+        ]),
+        // A reserved name, and the name of a file `q`.
+        b'r' => out.extend_from_slice(&[key, 3, sort, high, low]),
+        b'd' => out.extend_from_slice(&[key, 3, b'q', high, low]),
+        // A range of one number, of those from 1 on and of those from 61 on.
+        b'1' => out.extend_from_slice(&[key, 4, 0x08, next, 0x10, next + 1]),
+        b'6' => out.extend_from_slice(&[key, 4, 0x08, next + 60, 0x10, next + 61]),
+        // The place alone.
+        b'0' => out.extend_from_slice(&[key, place]),
+        _ => out.extend_from_slice(&[key, 5, 0x0a, 3, sort, high, low]),
+    }
+}
+
+/// Appends a field, or an extension, as `append_item` does.
+fn append_field(out: &mut Vec<u8>, key: u8, sort: u8, place: u8) -> Result<(), AllocError> {
+    let [high, low] = letters(place);
+    let next = place % 64 + 1;
+    match sort {
         // A field of int32 in the oneof of its place.
         b'f' => out.extend_from_slice(&[
             key, 13, 0x0a, 3, sort, high, low, 0x18, next, 0x20, 1, 0x28, 5, 0x48, place,
@@ -52,33 +84,10 @@ fn append_item(out: &mut Vec<u8>, key: u8, sort: u8, place: u8) -> Result<(), Al
             0x18,
             next + 60,
         ]),
-        b'y' => out.extend_from_slice(&[
+        _ => out.extend_from_slice(&[
             key, 17, 0x0a, 3, sort, high, low, 0x12, 4, b'.', b'p', b'.', b'N', 0x20, 1, 0x28, 5,
             0x18, next,
         ]),
-        // Enums with one value.
-        b'e' => out.extend_from_slice(&[
-            key, 14, 0x0a, 3, sort, high, low, 0x12, 7, 0x0a, 3, b'u', high, low, 0x10, 0,
-        ]),
-        b'c' => out.extend_from_slice(&[
-            key, 14, 0x0a, 3, sort, high, low, 0x12, 7, 0x0a, 3, b'w', high, low, 0x10, 0,
-        ]),
-        // A value.
-        b'v' => out.extend_from_slice(&[key, 7, 0x0a, 3, sort, high, low, 0x10, place]),
-        // A method.
-        b'g' => out.extend_from_slice(&[
-            key, 17, 0x0a, 3, sort, high, low, 0x12, 4, b'.', b'p', b'.', b'M', 0x1a, 4, b'.',
-            b'p', b'.', b'N',
-        ]),
-        // A reserved name, and the name of a file `q`.
-        b'r' => out.extend_from_slice(&[key, 3, sort, high, low]),
-        b'd' => out.extend_from_slice(&[key, 3, b'q', high, low]),
-        // A range of one number, of those from 1 on and of those from 61 on.
-        b'1' => out.extend_from_slice(&[key, 4, 0x08, next, 0x10, next + 1]),
-        b'6' => out.extend_from_slice(&[key, 4, 0x08, next + 60, 0x10, next + 61]),
-        // The place alone.
-        b'0' => out.extend_from_slice(&[key, place]),
-        _ => out.extend_from_slice(&[key, 5, 0x0a, 3, sort, high, low]),
     }
 }
 
