@@ -24,4 +24,4 @@ pub use Rattle.prost_reflect_tables.specs.Options.{bool_of, bool_among, bool_in}
 pub use Rattle.prost_reflect_tables.specs.Rows.{FieldRow, OneofRow, oneof_row}
 pub use Rattle.prost_reflect_tables.specs.WrittenDefaults.{Front, front, is_octal, octal, letter, escaped, front_byte, unescaped, up_to, whole_number, bits_at, whole_bits, is_digit, digits_from}
 unfoldable pub use Rattle.prost_reflect_tables.specs.WrittenDefaults.{octal_digit, unescaped_in, greatest_exponent}
-pub use Rattle.prost_reflect_flat.specs.declared.flatten.FlatMessage.{FlatMessage}
+pub use Rattle.prost_reflect_flat.specs.declared.definitions.FlatMessage.{FlatMessage}

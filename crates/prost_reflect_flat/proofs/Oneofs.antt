@@ -1,7 +1,7 @@
 -- The oneofs of a message, one more than were linked.
 use Rattle.std.specs.Prelude.{◌≡◌, ◌+◌, ◌<◌, ◌∷◌, ◌++◌}
 use Rattle.prost_reflect_flat.proofs.Common.{ℕ, suc, List, [], map, length, sym, ap, ◌∙◌, append_assoc, get_or, drop, drop-cons, add-one, map-append, belonging, linked_oneof, oneof_place, oneofs_from, FieldRow, OneofRow, oneof_row, FieldDescriptorProto, OneofDescriptorProto, definition_row, DefinitionRow}
-use Rattle.prost_reflect_flat.specs.declared.flatten.Definition.{Definition}
+use Rattle.prost_reflect_flat.specs.declared.definitions.Definition.{Definition}
 use Rattle.prost_reflect_tables.specs.declared.tables.OneofTable.{OneofTable}
 
 pub oneof_more : (fields : List FieldRow) (declared : List (DefinitionRow FieldDescriptorProto)) (tables : List OneofTable) (t : OneofTable) (ds : List (Definition OneofDescriptorProto)) (k : ℕ) (d : Definition OneofDescriptorProto) →

@@ -3,13 +3,13 @@ use Rattle.std.specs.Prelude.{ℕ, List, map, string_bytes}
 use denote.Bor.{Bor}
 use Rattle.prost_reflect_types.specs.declared.FileDescriptorProto.{FileDescriptorProto}
 use Rattle.prost_reflect_types.specs.declared.DescriptorProto.TheViews.{out-DescriptorProto}
-use Rattle.prost_reflect_flat.specs.declared.flatten.Scope.{Scope}
-use Rattle.prost_reflect_flat.specs.declared.flatten.Definition.{Definition}
-use Rattle.prost_reflect_flat.specs.declared.flatten.DefinitionRef.{DefinitionRef}
-use Rattle.prost_reflect_flat.specs.declared.flatten.FlatMessage.{FlatMessage}
-use Rattle.prost_reflect_flat.specs.declared.flatten.FlatEnum.{FlatEnum}
-use Rattle.prost_reflect_flat.specs.declared.flatten.FlatService.{FlatService}
-use Rattle.prost_reflect_flat.specs.declared.flatten.Flat.{Flat}
+use Rattle.prost_reflect_flat.specs.declared.definitions.Scope.{Scope}
+use Rattle.prost_reflect_flat.specs.declared.definitions.Definition.{Definition}
+use Rattle.prost_reflect_flat.specs.declared.definitions.DefinitionRef.{DefinitionRef}
+use Rattle.prost_reflect_flat.specs.declared.definitions.FlatMessage.{FlatMessage}
+use Rattle.prost_reflect_flat.specs.declared.definitions.FlatEnum.{FlatEnum}
+use Rattle.prost_reflect_flat.specs.declared.definitions.FlatService.{FlatService}
+use Rattle.prost_reflect_flat.specs.declared.definitions.Flat.{Flat}
 use Rattle.prost_reflect_tables.specs.Flat.{ScopeRow, DefinitionRow, FlatMessageRow, FlatEnumRow, FlatServiceRow, FlatRows, message_parts}
 
 abbrev pub scope_row : Scope → ScopeRow

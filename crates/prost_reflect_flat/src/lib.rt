@@ -7,17 +7,18 @@
 //!
 //! No pool stands below this crate, and none needs it: a pool looks at linked tables alone. What adds files to one needs both.
 //!
-//! Begin with `flatten`, which leads from records to lists; the other modules stand alone.
+//! Begin with `definitions`, which says what stands in the lists, and `flatten`, which leads from records to them; the other modules
+//! stand alone.
 #![tactic(auto)]
 
 mod defaults;
+mod definitions;
 mod flatten;
 mod name_lists;
 mod options;
 
 pub use defaults::written_default;
-pub use flatten::{
-    Definition, DefinitionRef, Flat, FlatEnum, FlatMessage, FlatService, flattened, is_proto3,
-};
+pub use definitions::{Definition, DefinitionRef, Flat, FlatEnum, FlatMessage, FlatService};
+pub use flatten::{flattened, is_proto3};
 pub use name_lists::{add_names, enum_names, file_names, message_names};
 pub use options::{bool_option, is_entry};

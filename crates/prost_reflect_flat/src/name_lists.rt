@@ -4,7 +4,7 @@ ghost use Rattle.std.specs.Prelude.{◌≡◌, ◌++◌, IfOk, OnOk, map};
 ghost use Rattle.prost_reflect_tables.specs.Faults.{names_of, file_names};
 ghost use Rattle.prost_reflect_flat.specs.FlatViews.{definition_row, file_list, message_row, enum_row, text_list};
 
-use crate::flatten::{Definition, FlatEnum, FlatMessage};
+use crate::definitions::{Definition, FlatEnum, FlatMessage};
 use prost_reflect_tables::text_or_empty;
 use prost_reflect_types::FileDescriptorProto;
 use std::alloc::{AllocError, Global};

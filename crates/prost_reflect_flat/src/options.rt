@@ -7,7 +7,7 @@ ghost use Rattle.prost_reflect_tables.specs.EntryFaults.{is_entry};
 ghost use Rattle.prost_reflect_flat.specs.FlatViews.{message_row};
 ghost use Rattle.prost_reflect_tables.specs.Options.{bool_of, bool_in, bool_option};
 
-use crate::flatten::FlatMessage;
+use crate::definitions::FlatMessage;
 use prost_reflect_wire::{RECURSION_LIMIT, WireType, decode_key, decode_varint, skip_value};
 
 /// The bool option of a number, or none where the options do not say it or are not read.

@@ -11,7 +11,7 @@ use Rattle.prost_reflect_tables.proofs.Pushing.{front_at}
 use Rattle.prost_reflect_tables.specs.Linking.{Links, is_place, fields_of_message, linked_field, linked_message, messages_from}
 use Rattle.prost_reflect_tables.specs.Resolved.{resolve}
 use Rattle.prost_reflect_tables.specs.Rows.{MessageRow, message_row as table_row}
-use Rattle.prost_reflect_flat.specs.declared.flatten.FlatMessage.{FlatMessage}
+use Rattle.prost_reflect_flat.specs.declared.definitions.FlatMessage.{FlatMessage}
 use Rattle.prost_reflect_tables.specs.declared.tables.FieldTable.{FieldTable}
 use Rattle.prost_reflect_tables.specs.declared.tables.MessageTable.{MessageTable}
 use Rattle.prost_reflect_linking.specs.declared.meaning.Meaning.{Meaning}

@@ -2,8 +2,8 @@
 use Rattle.std.specs.Prelude.{◌≡◌, ◌+◌, ◌<◌, ◌≤◌, ◌∷◌, ◌++◌}
 use Rattle.prost_reflect_resolving.proofs.Common.{ℕ, zero, suc, ℤ, pos, Bool, cond, true, false, List, [], length, take, get_or, map, String, Option, Some, None, unwrap_or, slice_get, refl, sym, ap, ◌∙◌, arith, bytes_eq, find, option_map, Global, take_more, map-append, EnumValueDescriptorProto, text_or_empty, EnumValueRow, FlatEnumRow, definition_row, enum_row, number_named, linked_value, IsNumbersOf, AreNumbersOf}
 use Rattle.prost_reflect_resolving.proofs.Common.{BTreeMap, get_by_text}
-use Rattle.prost_reflect_flat.specs.declared.flatten.Definition.{Definition}
-use Rattle.prost_reflect_flat.specs.declared.flatten.FlatEnum.{FlatEnum}
+use Rattle.prost_reflect_flat.specs.declared.definitions.Definition.{Definition}
+use Rattle.prost_reflect_flat.specs.declared.definitions.FlatEnum.{FlatEnum}
 use Rattle.prost_reflect_resolving.proofs.NamePlaces.{or_else}
 
 -- ONE ENUM

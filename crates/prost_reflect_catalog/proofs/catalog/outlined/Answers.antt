@@ -2,7 +2,7 @@ use Rattle.prost_reflect_catalog.proofs.Common.{ap, ◌∙◌, map, rules, List,
 use Rattle.prost_reflect_base.specs.declared.Base.{Base}
 use Rattle.prost_reflect_base.specs.Below.{catalog_below}
 use Rattle.std.specs.Prelude.{◌++◌}
-use Rattle.prost_reflect_flat.specs.declared.flatten.FlatService.{FlatService}
+use Rattle.prost_reflect_flat.specs.declared.definitions.FlatService.{FlatService}
 use Rattle.prost_reflect_lists.specs.ExtendedRows.{found_extended}
 use Rattle.prost_reflect_lists.proofs.ExtendedRows.{extended_are}
 use Rattle.prost_reflect_catalog.proofs.catalog.outlined.Goals as goal

@@ -1,5 +1,5 @@
 use Rattle.prost_reflect_checks.proofs.Common.{List, map, ap, sym, ◌∙◌, is_entry, message_row}
-use Rattle.prost_reflect_flat.specs.declared.flatten.FlatMessage.{FlatMessage}
+use Rattle.prost_reflect_flat.specs.declared.definitions.FlatMessage.{FlatMessage}
 use Rattle.prost_reflect_flat.proofs.EntryFlags.{flag_at}
 use Rattle.prost_reflect_checks.proofs.entries.has_entry_bad.Goals as goal
 

@@ -16,8 +16,8 @@ use Rattle.prost_reflect_tables.specs.Linking.{messages_from}
 use Rattle.prost_reflect_tables.specs.Resolved.{resolve}
 use Rattle.prost_reflect_tables.specs.Rows as rows
 use Rattle.prost_reflect_tables.specs.Rows.{EnumRow, MessageRow, TableRows}
-use Rattle.prost_reflect_flat.specs.declared.flatten.Definition.{Definition}
-use Rattle.prost_reflect_flat.specs.declared.flatten.FlatEnum.{FlatEnum}
+use Rattle.prost_reflect_flat.specs.declared.definitions.Definition.{Definition}
+use Rattle.prost_reflect_flat.specs.declared.definitions.FlatEnum.{FlatEnum}
 use Rattle.prost_reflect_types.specs.declared.FieldDescriptorProto.{FieldDescriptorProto}
 use Rattle.prost_reflect_linking.proofs.link.linked.Goals as goal
 

@@ -10,8 +10,8 @@ use Rattle.prost_reflect_flat.specs.FlatViews as flat_views
 use Rattle.prost_reflect_tables.specs.Linking.{linked_message}
 use Rattle.prost_reflect_tables.specs.Rows as rows
 use Rattle.prost_reflect_tables.specs.Rows.{FieldRow}
-use Rattle.prost_reflect_flat.specs.declared.flatten.Definition.{Definition}
-use Rattle.prost_reflect_flat.specs.declared.flatten.FlatMessage.{FlatMessage}
+use Rattle.prost_reflect_flat.specs.declared.definitions.Definition.{Definition}
+use Rattle.prost_reflect_flat.specs.declared.definitions.FlatMessage.{FlatMessage}
 use Rattle.prost_reflect_tables.specs.declared.tables.FieldTable.{FieldTable}
 use Rattle.prost_reflect_types.specs.declared.FieldDescriptorProto.{FieldDescriptorProto}
 use Rattle.prost_reflect_linking.proofs.link.linked_messages.Goals as goal

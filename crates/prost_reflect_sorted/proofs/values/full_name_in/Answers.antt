@@ -1,6 +1,6 @@
 use Rattle.prost_reflect_sorted.proofs.Common.{List, map, rules, refl, ap, ◌∙◌, FlatEnumRow, definition_row, enum_row, names_of, text_at, texts_there, no_texts}
 use Rattle.prost_reflect_types.specs.declared.EnumValueDescriptorProto.{EnumValueDescriptorProto}
-use Rattle.prost_reflect_flat.specs.declared.flatten.Definition.{Definition}
+use Rattle.prost_reflect_flat.specs.declared.definitions.Definition.{Definition}
 use Rattle.prost_reflect_sorted.proofs.values.full_name_in.Goals as goal
 
 pub returns-in-Some : goal.returns-in-Some

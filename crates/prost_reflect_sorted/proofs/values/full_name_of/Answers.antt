@@ -1,7 +1,7 @@
 use Rattle.std.specs.Prelude.{◌-◌}
 use Rattle.prost_reflect_sorted.proofs.Common.{List, map, arith, ap, ◌∙◌, flat_rows, enum_row, names_of, text_in, FlatEnumRow}
 use Rattle.prost_reflect_base.specs.Below.{rows_below}
-use Rattle.prost_reflect_flat.specs.declared.flatten.FlatEnum.{FlatEnum}
+use Rattle.prost_reflect_flat.specs.declared.definitions.FlatEnum.{FlatEnum}
 use Rattle.prost_reflect_sorted.proofs.Merged.{front_value, back_value}
 use Rattle.prost_reflect_sorted.proofs.values.full_name_of.Goals as goal
 

@@ -1,5 +1,5 @@
 use Rattle.prost_reflect_sorted.proofs.Common.{List, map, ap, ◌∙◌, FlatEnumRow, enum_row, names_of, all_pairs, sorted_by, text_in, text_before}
-use Rattle.prost_reflect_flat.specs.declared.flatten.FlatEnum.{FlatEnum}
+use Rattle.prost_reflect_flat.specs.declared.definitions.FlatEnum.{FlatEnum}
 use Rattle.prost_reflect_sorted.proofs.values.ordered_values.Goals as goal
 
 pub returns : goal.returns

@@ -4,7 +4,7 @@ use Rattle.std.proofs.Common.{take, min}
 use Rattle.std.proofs.lemmas.List.{map-append, take_more, take_all}
 use Rattle.std.proofs.lemmas.List.Sums.{sum_by_push}
 use Rattle.prost_reflect_sorted.proofs.Common.{ℕ, List, [], length, map, get_or, sym, ap, ◌∙◌, arith, length-map, definition_row, enum_row, FlatEnumRow}
-use Rattle.prost_reflect_flat.specs.declared.flatten.FlatEnum.{FlatEnum}
+use Rattle.prost_reflect_flat.specs.declared.definitions.FlatEnum.{FlatEnum}
 use Rattle.prost_reflect_sorted.proofs.values.value_count.Goals as goal
 
 abbrev total : List FlatEnum → ℕ

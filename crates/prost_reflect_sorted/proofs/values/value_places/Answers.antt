@@ -1,8 +1,8 @@
 use Rattle.std.specs.Prelude.{◌≡◌, ◌+◌, ◌<◌, ◌++◌}
 use Rattle.prost_reflect_sorted.proofs.Common.{ℕ, List, length, map, drop, get_or, sym, ap, ◌∙◌, append_assoc, FlatEnumRow, definition_row, enum_row, pairs_at, pairs_from, all_shown, front_left}
 use Rattle.prost_reflect_types.specs.declared.EnumValueDescriptorProto.{EnumValueDescriptorProto}
-use Rattle.prost_reflect_flat.specs.declared.flatten.Definition.{Definition}
-use Rattle.prost_reflect_flat.specs.declared.flatten.FlatEnum.{FlatEnum}
+use Rattle.prost_reflect_flat.specs.declared.definitions.Definition.{Definition}
+use Rattle.prost_reflect_flat.specs.declared.definitions.FlatEnum.{FlatEnum}
 use Rattle.prost_reflect_sorted.proofs.values.value_places.Goals as goal
 
 abbrev left : ℕ → List FlatEnum → List (ℕ × ℕ)
