@@ -63,4 +63,6 @@ pub record MeansEdited (schema : Schema) (T : ℕ) (bytes path : List ℕ) (v : 
 
 -- It does to each newer type of a checked schema that accepts the bytes, and of which the older one is a reduction.
 abbrev pub PassesEdit : Schema → ℕ → List ℕ → List ℕ → Value → List ℕ → Type 0
-PassesEdit older A bytes path v written = (newer : Schema) (B : ℕ) → schema_valid newer ≡ true → Reduced older A newer B → Accepts newer LEVEL_LIMIT B bytes → MeansEdited newer B bytes path v written
+PassesEdit older A bytes path v written = (newer : Schema) (B : ℕ) → schema_valid newer ≡ true → Reduced older A newer B
+    → Accepts newer LEVEL_LIMIT B bytes
+    → MeansEdited newer B bytes path v written

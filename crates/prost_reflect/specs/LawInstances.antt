@@ -38,11 +38,17 @@ pub record OfContentLaws : Type 0 where
   -- Numbers that ascend.
   pub message_slots : (type : PooledType) (text : String Global) → IsAscending (stored_in (sample_message type text))
   -- Values that are in order.
-  pub message_order : (type : PooledType) (text : String Global) → IsAscending (stored_in (sample_message type text)) × ((k : ℕ) (v : Value) → stored_at (stored_in (sample_message type text)) k ≡ Some v → value_ordered (value_of v) ≡ true)
+  pub message_order : (type : PooledType) (text : String Global)
+      → IsAscending (stored_in (sample_message type text))
+      × ((k : ℕ) (v : Value) → stored_at (stored_in (sample_message type text)) k ≡ Some v
+      → value_ordered (value_of v) ≡ true)
   -- A field of the content's type.
   pub slots_after_set : (f : Field) × (field_of (fields_in sample) 2 ≡ Some f)
   -- Two messages whose texts are the same, and may lie in two places.
-  pub slots_determine : (type : PooledType) (text other : String Global) → string_bytes text ≡ string_bytes other → ((k : ℕ) → slot_at (entries_of (content_of (sample_message type text))) k ≡ slot_at (entries_of (content_of (sample_message type other))) k)
+  pub slots_determine : (type : PooledType) (text other : String Global) → string_bytes text ≡ string_bytes other
+      → ((k : ℕ)
+      → slot_at (entries_of (content_of (sample_message type text))) k
+      ≡ slot_at (entries_of (content_of (sample_message type other))) k)
 
 pub record OfKeptLaws : Type 0 where
   pub message_arranged : (type : PooledType) (text : String Global) → IsAscending (stored_in (sample_message type text))
@@ -52,7 +58,10 @@ pub record OfKeptLaws : Type 0 where
   -- Contents to which any record is added.
   pub kept_after_unknown : Arranged (entries_of sample) × Arranged (entries_of stores_defaults)
   -- A number that is lent for writing, and 0 for its default.
-  pub kept_after_writing : Arranged (entries_of sample) × ((f : Field) × (field_of (fields_in sample) 1 ≡ Some f) × (kept_inside (ScalarValue (I32 (pos 0))) ≡ default_value examples f.form f.value_type) × (field_valid examples f ≡ true))
+  pub kept_after_writing : Arranged (entries_of sample)
+      × ((f : Field) × (field_of (fields_in sample) 1 ≡ Some f)
+      × (kept_inside (ScalarValue (I32 (pos 0))) ≡ default_value examples f.form f.value_type)
+      × (field_valid examples f ≡ true))
 
 -- An unknown group where no level is left.
 abbrev pub empty_group : Record

@@ -53,11 +53,13 @@ RefusesRelay schema T bytes (Encode encode_errors.TooLong) = PassesLength schema
 
 -- What a newer type accepts, of which the older one is a reduction, the older one accepts.
 abbrev pub OlderAccepts : Schema → ℕ → List ℕ → Type 0
-OlderAccepts older A bytes = (newer : Schema) (B : ℕ) → Reduced older A newer B → Accepts newer LEVEL_LIMIT B bytes → Accepts older LEVEL_LIMIT A bytes
+OlderAccepts older A bytes = (newer : Schema) (B : ℕ) → Reduced older A newer B → Accepts newer LEVEL_LIMIT B bytes
+    → Accepts older LEVEL_LIMIT A bytes
 
 -- To each such type that accepts the bytes, what is written means what they do.
 abbrev pub Passes : Schema → ℕ → List ℕ → List ℕ → Type 0
-Passes older A bytes written = (newer : Schema) (B : ℕ) → Reduced older A newer B → Accepts newer LEVEL_LIMIT B bytes → MeansSame newer B bytes written
+Passes older A bytes written = (newer : Schema) (B : ℕ) → Reduced older A newer B → Accepts newer LEVEL_LIMIT B bytes
+    → MeansSame newer B bytes written
 
 -- HEX DIGITS
 

@@ -121,7 +121,8 @@ pub fn key_order()
     ensures order { (a : MapKey) (b : MapKey) → ⟦<MapKey as Ord>⟧.cmp a b ≡ scalar_cmp (key_of a) (key_of b) }
     ensures equality { (a : MapKey) (b : MapKey) → ⟦<MapKey as PartialEq>⟧.eq a b ≡ scalar_eq (key_of a) (key_of b) }
     ensures hash { (a : MapKey) → ⟦<MapKey as Hash>⟧.hash_input a ≡ key_writes (key_of a) }
-    ensures alike { (a : MapKey) (b : MapKey) → scalar_eq (key_of a) (key_of b) ≡ true → ⟦<MapKey as Hash>⟧.hash_input a ≡ ⟦<MapKey as Hash>⟧.hash_input b }
+    ensures alike { (a : MapKey) (b : MapKey) → scalar_eq (key_of a) (key_of b) ≡ true
+        → ⟦<MapKey as Hash>⟧.hash_input a ≡ ⟦<MapKey as Hash>⟧.hash_input b }
 {}
 
 /// The value of a key becomes that key again by `Value::into_map_key`: as the same scalar, and keys that are one scalar are
@@ -140,7 +141,15 @@ pub fn map_insert()
 /// depth. Both have to be encodable and typed, as `is_encodable` and `is_typed` tell, and the encoding has to have a length, as
 /// each that was written has.
 pub fn same_bytes()
-    ensures { (a : DynamicMessage) (b : DynamicMessage) (c : MessageDescriptor) (d : MessageDescriptor) → NamesSame c (message_type_of a) → NamesSame d (message_type_of b) → IsTrue (⟦<MessageDescriptor as PartialEq>⟧.eq c d) → WellStored (content_of a) → WellStored (content_of b) → length (encoded (kept (content_of a))) < 2 ^ 64 → (encoded (kept (content_of a)) ≡ encoded (kept (content_of b))) ↔ (kept (content_of a) ≡ kept (content_of b)) }
+    ensures { (a : DynamicMessage) (b : DynamicMessage) (c : MessageDescriptor) (d : MessageDescriptor)
+        → NamesSame c (message_type_of a)
+        → NamesSame d (message_type_of b)
+        → IsTrue (⟦<MessageDescriptor as PartialEq>⟧.eq c d)
+        → WellStored (content_of a)
+        → WellStored (content_of b)
+        → length (encoded (kept (content_of a))) < 2 ^ 64
+        → (encoded (kept (content_of a)) ≡ encoded (kept (content_of b)))
+        ↔ (kept (content_of a) ≡ kept (content_of b)) }
 {
     descriptor_equality();
 }

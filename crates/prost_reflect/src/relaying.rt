@@ -121,7 +121,8 @@ fn decode_by(
     bytes: &[u8],
 ) -> Result<DynamicMessage, DecodeError>
     ensures read { IfOk result (λ message. IsReadBy (schema_named older.now) (type_named older.now) bytes.now (content_of message)) }
-    ensures refused { IfErr result (λ e. e ≢ decode_errors.OutOfMemory → IsFaulty (schema_named older.now) (type_named older.now) e bytes.now) }
+    ensures refused { IfErr result
+        (λ e. e ≢ decode_errors.OutOfMemory → IsFaulty (schema_named older.now) (type_named older.now) e bytes.now) }
 {
     let descriptor = older.clone()?;
     DynamicMessage::decode(alloc, descriptor, bytes)

@@ -62,7 +62,8 @@ impl<'p> Base<'p> {
 
     /// The ranges of extension numbers of the message type at a place, or none where no message type stands there.
     pub fn extension_ranges(&self, place: usize) -> Option<&'p [ExtensionRange]>
-        ensures { option_map (λ r. r.now) result ≡ option_map (λ m. m.definition.proto.extension_range) (slice_get (rows_below self.now).messages place) }
+        ensures { option_map (λ r. r.now) result
+            ≡ option_map (λ m. m.definition.proto.extension_range) (slice_get (rows_below self.now).messages place) }
     {
         if place < self.pool.message_count() {
             Some(self.pool.message_record(place).extension_range.as_slice())

@@ -65,8 +65,11 @@ fn add_name(
     names: &mut BTreeSet<String>,
     file: &FileDescriptorProto,
 ) -> Result<bool, AllocError>
-    ensures new { IfOk result (λ new. (files : List FileDescriptorProto) → AreNamesOf files names.old → new ≡ not (is_there files file.now)) }
-    ensures names { OnOk result ((files : List FileDescriptorProto) → AreNamesOf files names.old → AreNamesOf (files ++ file.now ∷ []) names.new) }
+    ensures new { IfOk result
+        (λ new. (files : List FileDescriptorProto) → AreNamesOf files names.old → new ≡ not (is_there files file.now)) }
+    ensures names { OnOk result
+        ((files : List FileDescriptorProto) → AreNamesOf files names.old
+        → AreNamesOf (files ++ file.now ∷ []) names.new) }
 {
     let name = text_or_empty(&file.name);
     if name.is_empty() {
@@ -85,8 +88,13 @@ fn add_file(
 ) -> Result<(), PoolError>
     requires { AreNamesOf (shared_files new.old.items) names.old }
     ensures names { OnOk result (AreNamesOf (shared_files new.new.items) names.new) }
-    ensures added { OnOk result ((batch : List FileDescriptorProto) → added (files_of pool.now ++ shared_files new.old.items) (file ∷ batch) ≡ added (files_of pool.now ++ shared_files new.new.items) batch) }
-    ensures differ { OnOk result (IsTrue (names_differ (files_of pool.now ++ shared_files new.old.items)) → IsTrue (names_differ (files_of pool.now ++ shared_files new.new.items))) }
+    ensures added { OnOk result
+        ((batch : List FileDescriptorProto)
+        → added (files_of pool.now ++ shared_files new.old.items) (file ∷ batch)
+        ≡ added (files_of pool.now ++ shared_files new.new.items) batch) }
+    ensures differ { OnOk result
+        (IsTrue (names_differ (files_of pool.now ++ shared_files new.old.items))
+        → IsTrue (names_differ (files_of pool.now ++ shared_files new.new.items))) }
     ensures err { IfErr result (λ e. e ≡ pool_errors.OutOfMemory) }
 {
     if is_known(pool, &file) {

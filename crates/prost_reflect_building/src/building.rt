@@ -39,7 +39,10 @@ pub(crate) fn link_behind(
     ensures tables { IfOk result (λ t. AreTablesOf (files_of pool.now ++ file_list files.now) (rows_of t.0)) }
     ensures catalog { IfOk result (λ t. IsCatalogOf (files_of pool.now ++ file_list files.now) t.1) }
     ensures ranged { IfOk result (λ t. IsTrue (in_range (rows_of t.0))) }
-    ensures stands { IfErr result (λ e. e ≢ pool_errors.OutOfMemory → Stands e (files_of pool.now ++ file_list files.now) (flattened (files_of pool.now ++ file_list files.now))) }
+    ensures stands { IfErr result
+        (λ e. e ≢ pool_errors.OutOfMemory
+        → Stands e (files_of pool.now ++ file_list files.now)
+        (flattened (files_of pool.now ++ file_list files.now))) }
 {
     let base = Base::of(pool);
     let flat = flattened(alloc, base.file_count(), base.message_count(), files)?;

@@ -17,10 +17,14 @@ use Rattle.prost_reflect_tables.specs.Linking.{links_of}
 
 -- What added files give to the catalog of the pool and of these, but for what takes the rows of both.
 pub record IsOutlineOf (outline : Outline) (base : Base) (added : List FileDescriptorProto) (new : FlatRows) : Type 0 where
-  pub files : map file_table_row outline.files ≡ (catalog_below base).files ++ each_from (added_file (file_names (files_below base ++ added)) (rows_below base) new) (length (files_below base)) added
+  pub files : map file_table_row outline.files
+      ≡ (catalog_below base).files
+      ++ each_from (added_file (file_names (files_below base ++ added)) (rows_below base) new)
+      (length (files_below base)) added
   pub inner : AreInner outline.inner (rows_below base) new
   pub further : AreFurther outline.further.items (rows_below base) new
   pub enums : map enum_lists_row outline.enums ≡ (catalog_below base).enums ++ map enum_lists new.enums
   pub extensions : map extended_row outline.extensions.items ≡ map (extended (links_of (all_rows base new))) new.extensions
-  pub services : map service_table_row outline.services ≡ (catalog_below base).services ++ map (linked_service (links_of (all_rows base new))) new.services
+  pub services : map service_table_row outline.services
+      ≡ (catalog_below base).services ++ map (linked_service (links_of (all_rows base new))) new.services
   pub by_name : sorted_row outline.by_name ≡ grown_sorted (files_below base) added (rows_below base) new (catalog_below base).by_name

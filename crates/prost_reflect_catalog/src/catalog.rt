@@ -62,7 +62,10 @@ fn sorted_places(
     files: &[&FileDescriptorProto],
     flat: &Flat,
 ) -> Result<SortedPlaces, AllocError>
-    ensures { IfOk result (λ s. sorted_row s ≡ grown_sorted (files_below base.entry) (file_list files.now) (rows_below base.entry) (flat_rows flat.now) (catalog_below base.entry).by_name) }
+    ensures { IfOk result
+        (λ s. sorted_row s
+        ≡ grown_sorted (files_below base.entry) (file_list files.now) (rows_below base.entry) (flat_rows flat.now)
+        (catalog_below base.entry).by_name) }
 {
     let files = file_names(alloc, files)?;
     let messages = message_names(alloc, flat.messages.as_slice())?;
@@ -114,7 +117,8 @@ pub fn outlined(
 ) -> Result<Outline, AllocError>
     requires index { IsIndex index.now (flat_rows flat.now) }
     requires base { index.now.base ≡ base }
-    requires extensions { map resolved_row extensions.now ≡ map (resolve (links_of (all_rows base (flat_rows flat.now)))) (flat_rows flat.now).extensions }
+    requires extensions { map resolved_row extensions.now
+        ≡ map (resolve (links_of (all_rows base (flat_rows flat.now)))) (flat_rows flat.now).extensions }
     ensures { IfOk result (λ o. IsOutlineOf o base.entry (file_list files.now) (flat_rows flat.now)) }
 {
     Ok(Outline {
@@ -146,7 +150,10 @@ pub fn linked_catalog(
     ghost new: { FlatRows }
     requires outline { IsOutlineOf outline base (file_list files.now) new }
     requires tables { rows_of tables.now ≡ grown_rows (rows_below base) new (tables_below base) }
-    ensures { IfOk result (λ c. catalog_row c ≡ grown_catalog (files_below base.entry) (file_list files.now) (rows_below base.entry) new (tables_below base.entry) (catalog_below base.entry)) }
+    ensures { IfOk result
+        (λ c. catalog_row c
+        ≡ grown_catalog (files_below base.entry) (file_list files.now) (rows_below base.entry) new
+        (tables_below base.entry) (catalog_below base.entry)) }
 {
     let further = outline.further.as_slice();
     let messages = lists_of_messages(alloc, base, &outline.inner, further, tables)?;

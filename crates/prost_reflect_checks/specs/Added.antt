@@ -8,7 +8,8 @@ use Rattle.prost_reflect_tables.specs.DefaultFaults.{default_bad, float_default_
 use Rattle.prost_reflect_tables.specs.Linking.{links_of}
 
 abbrev pub added_unknown_type : (all new : FlatRows) → Bool
-added_unknown_type all new = any_field (type_unknown all) new || list_any (extendee_unknown all) new.extensions || list_any (λ s. list_any (method_type_unknown all) s.methods) new.services
+added_unknown_type all new = any_field (type_unknown all) new || list_any (extendee_unknown all) new.extensions
+    || list_any (λ s. list_any (method_type_unknown all) s.methods) new.services
 
 abbrev pub added_map_entry : (all new : FlatRows) → Bool
 added_map_entry all new =

@@ -143,7 +143,9 @@ fn is_method_of_entry(
 
 fn has_wrongly_of_entry(resolved: &Resolved, flat: &Flat) -> bool
     requires { IsResolved resolved.now (flat_rows flat.now) }
-    ensures { result ≡ list_any (λ m. list_any (wrongly_of_entry (all_rows resolved.now.index.base (flat_rows flat.now))) m.fields) (flat_rows flat.now).messages }
+    ensures { result
+        ≡ list_any (λ m. list_any (wrongly_of_entry (all_rows resolved.now.index.base (flat_rows flat.now))) m.fields)
+        (flat_rows flat.now).messages }
 {
     any_resolved_field(
         resolved,
@@ -165,7 +167,9 @@ fn has_extension_of_entry(resolved: &Resolved, flat: &Flat) -> bool
 
 fn has_method_of_entry(resolved: &Resolved, flat: &Flat) -> bool
     requires { IsResolved resolved.now (flat_rows flat.now) }
-    ensures { result ≡ list_any (λ s. list_any (method_of_entry (all_rows resolved.now.index.base (flat_rows flat.now))) s.methods) (flat_rows flat.now).services }
+    ensures { result
+        ≡ list_any (λ s. list_any (method_of_entry (all_rows resolved.now.index.base (flat_rows flat.now))) s.methods)
+        (flat_rows flat.now).services }
 {
     any_method(
         flat.services.as_slice(),

@@ -60,7 +60,10 @@ fn has_fault(
     resolved: &Resolved,
 ) -> Result<bool, AllocError>
     requires { IsResolved resolved.now (flat_rows flat.now) }
-    ensures { IfOk result (λ b. b ≡ added_fault fault (files_below resolved.now.index.base) (file_list files.now) (rows_below resolved.now.index.base) (flat_rows flat.now)) }
+    ensures { IfOk result
+        (λ b. b
+        ≡ added_fault fault (files_below resolved.now.index.base) (file_list files.now)
+        (rows_below resolved.now.index.base) (flat_rows flat.now)) }
 {
     match fault {
         PoolError::MissingName => Ok(has_missing_name(files, flat)),
@@ -94,8 +97,16 @@ fn check_faults(
     resolved: &Resolved,
 ) -> Result<(), PoolError>
     requires { IsResolved resolved.now (flat_rows flat.now) }
-    ensures ok { OnOk result (list_any (λ e. added_fault e (files_below resolved.now.index.base) (file_list files.now) (rows_below resolved.now.index.base) (flat_rows flat.now)) faults.now ≡ false) }
-    ensures stands { IfErr result (λ e. e ≢ pool_errors.OutOfMemory → added_fault e (files_below resolved.now.index.base) (file_list files.now) (rows_below resolved.now.index.base) (flat_rows flat.now) ≡ true) }
+    ensures ok { OnOk result
+        (list_any
+        (λ e. added_fault e (files_below resolved.now.index.base) (file_list files.now)
+        (rows_below resolved.now.index.base) (flat_rows flat.now)) faults.now
+        ≡ false) }
+    ensures stands { IfErr result
+        (λ e. e ≢ pool_errors.OutOfMemory
+        → added_fault e (files_below resolved.now.index.base) (file_list files.now)
+        (rows_below resolved.now.index.base) (flat_rows flat.now)
+        ≡ true) }
 {
     for fault in faults {
         if has_fault(alloc, *fault, files, flat, resolved)? {
@@ -117,10 +128,16 @@ pub fn check_added<'f, 'a>(
     files: &[&FileDescriptorProto],
     flat: &'f Flat<'a>,
 ) -> Result<Resolved<'f>, PoolError>
-    ensures ok { OnOk result ((e : PoolError) → added_fault e (files_below base.entry) (file_list files.now) (rows_below base.entry) (flat_rows flat.now) ≡ false) }
+    ensures ok { OnOk result
+        ((e : PoolError)
+        → added_fault e (files_below base.entry) (file_list files.now) (rows_below base.entry) (flat_rows flat.now)
+        ≡ false) }
     ensures resolved { IfOk result (λ resolved. IsResolved resolved (flat_rows flat.now)) }
     ensures base { IfOk result (λ resolved. resolved.index.base ≡ base.entry) }
-    ensures stands { IfErr result (λ e. e ≢ pool_errors.OutOfMemory → added_fault e (files_below base.entry) (file_list files.now) (rows_below base.entry) (flat_rows flat.now) ≡ true) }
+    ensures stands { IfErr result
+        (λ e. e ≢ pool_errors.OutOfMemory
+        → added_fault e (files_below base.entry) (file_list files.now) (rows_below base.entry) (flat_rows flat.now)
+        ≡ true) }
 {
     let resolved = all_resolved(alloc, base, flat)?;
     check_faults(alloc, &FAULTS, files, flat, &resolved)?;

@@ -32,7 +32,9 @@ fn add_fields(
     message: usize,
     fields: &[Definition<FieldDescriptorProto>],
 ) -> Result<(), AllocError>
-    ensures { OnOk result (numbered_list numbers.new.items ≡ numbered_list numbers.old.items ++ numbered_fields message (map definition_row fields.now)) }
+    ensures { OnOk result
+        (numbered_list numbers.new.items
+        ≡ numbered_list numbers.old.items ++ numbered_fields message (map definition_row fields.now)) }
 {
     for field in fields {
         numbers.push((message, field.proto.number.unwrap_or(0)))?;
@@ -46,7 +48,9 @@ fn add_messages(
     first: usize,
     messages: &[FlatMessage],
 ) -> Result<(), AllocError>
-    ensures { OnOk result (numbered_list numbers.new.items ≡ numbered_list numbers.old.items ++ numbered_in first (map message_row messages.now)) }
+    ensures { OnOk result
+        (numbered_list numbers.new.items
+        ≡ numbered_list numbers.old.items ++ numbered_in first (map message_row messages.now)) }
 {
     for (offset, message) in messages.iter().enumerate() {
         let place = first.checked_add(offset).ok_or(AllocError)?;
@@ -59,7 +63,9 @@ fn add_extensions(
     numbers: &mut Vec<(usize, i32)>,
     extensions: &[ResolvedField],
 ) -> Result<(), AllocError>
-    ensures { OnOk result (numbered_list numbers.new.items ≡ numbered_list numbers.old.items ++ numbered_found (map resolved_row extensions.now)) }
+    ensures { OnOk result
+        (numbered_list numbers.new.items
+        ≡ numbered_list numbers.old.items ++ numbered_found (map resolved_row extensions.now)) }
 {
     for extension in extensions {
         if let Some(place) = extension.extendee {

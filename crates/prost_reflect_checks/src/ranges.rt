@@ -34,7 +34,8 @@ fn ranges_at<'f>(
     flat: &'f Flat,
     place: usize,
 ) -> Option<&'f [ExtensionRange]>
-    ensures { option_map (λ r. r.now) result ≡ ranges_of (slice_get (all_rows resolved.now.index.base (flat_rows flat.now)).messages place) }
+    ensures { option_map (λ r. r.now) result
+        ≡ ranges_of (slice_get (all_rows resolved.now.index.base (flat_rows flat.now)).messages place) }
 {
     let count = resolved.index.base.message_count();
     if place < count {
@@ -109,7 +110,10 @@ pub fn has_outside_range(
     flat: &Flat,
 ) -> Result<bool, AllocError>
     requires { IsResolved resolved.now (flat_rows flat.now) }
-    ensures { IfOk result (λ b. b ≡ list_any (extension_outside (all_rows resolved.now.index.base (flat_rows flat.now))) (flat_rows flat.now).extensions) }
+    ensures { IfOk result
+        (λ b. b
+        ≡ list_any (extension_outside (all_rows resolved.now.index.base (flat_rows flat.now)))
+        (flat_rows flat.now).extensions) }
 {
     let places = extended_places(alloc, resolved.extensions.as_slice())?;
     let spans = spans_at(alloc, resolved, flat, places.as_slice())?;

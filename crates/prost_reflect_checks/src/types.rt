@@ -70,7 +70,10 @@ pub fn has_missing_dependency(
     base: Base<'_>,
     files: &[&FileDescriptorProto],
 ) -> Result<bool, AllocError>
-    ensures { IfOk result (λ b. b ≡ list_any (dependency_missing (file_names (files_below base.entry ++ file_list files.now))) (file_list files.now)) }
+    ensures { IfOk result
+        (λ b. b
+        ≡ list_any (dependency_missing (file_names (files_below base.entry ++ file_list files.now)))
+        (file_list files.now)) }
 {
     let names = file_names(alloc, files)?;
     let index = index_from(alloc, base.file_count(), names.as_slice())?;
@@ -124,7 +127,9 @@ fn is_method_type_unknown(
 
 fn has_method_type_unknown(index: &Index, flat: &Flat) -> bool
     requires { IsIndex index.now (flat_rows flat.now) }
-    ensures { result ≡ list_any (λ s. list_any (method_type_unknown (all_rows index.now.base (flat_rows flat.now))) s.methods) (flat_rows flat.now).services }
+    ensures { result
+        ≡ list_any (λ s. list_any (method_type_unknown (all_rows index.now.base (flat_rows flat.now))) s.methods)
+        (flat_rows flat.now).services }
 {
     any_method(
         flat.services.as_slice(),

@@ -20,7 +20,8 @@ fn any_resolved<'f, F: Fn(&ResolvedField<'f>) -> bool>(
     test: &F,
 ) -> bool
     requires { F.IsAlwaysCallable test.now }
-    ensures { (p : ResolvedRow → Bool) → Computes F.Fn test.now (λ f. p (resolved_row f)) → result ≡ list_any p (map resolved_row fields.now) }
+    ensures { (p : ResolvedRow → Bool) → Computes F.Fn test.now (λ f. p (resolved_row f))
+        → result ≡ list_any p (map resolved_row fields.now) }
 {
     any(fields, test)
 }
@@ -30,7 +31,8 @@ fn any_resolved_in<'f, F: Fn(&ResolvedField<'f>) -> bool>(
     test: &F,
 ) -> bool
     requires { F.IsAlwaysCallable test.now }
-    ensures { (p : ResolvedRow → Bool) → Computes F.Fn test.now (λ f. p (resolved_row f)) → result ≡ list_any (λ fs. list_any p fs) (resolved_lists lists.now) }
+    ensures { (p : ResolvedRow → Bool) → Computes F.Fn test.now (λ f. p (resolved_row f))
+        → result ≡ list_any (λ fs. list_any p fs) (resolved_lists lists.now) }
 {
     for fields in lists {
         if any_resolved(fields.as_slice(), test) {
@@ -48,7 +50,11 @@ pub fn any_resolved_field<'f, F: Fn(&ResolvedField<'f>) -> bool>(
 ) -> bool
     requires callable { F.IsAlwaysCallable test.now }
     requires resolved { IsResolved resolved.now (flat_rows flat.now) }
-    ensures { (p : ResolvedRow → Bool) (q : DefinitionRow FieldDescriptorProto → Bool) → Computes F.Fn test.now (λ f. p (resolved_row f)) → ((d : DefinitionRow FieldDescriptorProto) → p (resolve (links_of (all_rows resolved.now.index.base (flat_rows flat.now))) d) ≡ q d) → result ≡ list_any (λ m. list_any q m.fields) (flat_rows flat.now).messages }
+    ensures { (p : ResolvedRow → Bool) (q : DefinitionRow FieldDescriptorProto → Bool)
+        → Computes F.Fn test.now (λ f. p (resolved_row f))
+        → ((d : DefinitionRow FieldDescriptorProto)
+        → p (resolve (links_of (all_rows resolved.now.index.base (flat_rows flat.now))) d) ≡ q d)
+        → result ≡ list_any (λ m. list_any q m.fields) (flat_rows flat.now).messages }
 {
     any_resolved_in(resolved.fields.as_slice(), test)
 }
@@ -61,7 +67,11 @@ pub fn any_resolved_extension<'f, F: Fn(&ResolvedField<'f>) -> bool>(
 ) -> bool
     requires callable { F.IsAlwaysCallable test.now }
     requires resolved { IsResolved resolved.now (flat_rows flat.now) }
-    ensures { (p : ResolvedRow → Bool) (q : DefinitionRow FieldDescriptorProto → Bool) → Computes F.Fn test.now (λ f. p (resolved_row f)) → ((d : DefinitionRow FieldDescriptorProto) → p (resolve (links_of (all_rows resolved.now.index.base (flat_rows flat.now))) d) ≡ q d) → result ≡ list_any q (flat_rows flat.now).extensions }
+    ensures { (p : ResolvedRow → Bool) (q : DefinitionRow FieldDescriptorProto → Bool)
+        → Computes F.Fn test.now (λ f. p (resolved_row f))
+        → ((d : DefinitionRow FieldDescriptorProto)
+        → p (resolve (links_of (all_rows resolved.now.index.base (flat_rows flat.now))) d) ≡ q d)
+        → result ≡ list_any q (flat_rows flat.now).extensions }
 {
     any_resolved(resolved.extensions.as_slice(), test)
 }

@@ -32,7 +32,8 @@ pub fn any_definition<'a, R, F: Fn(&Definition<'a, R>) -> bool>(
     test: &F,
 ) -> bool
     requires { F.IsAlwaysCallable test.now }
-    ensures { (p : DefinitionRow R → Bool) → Computes F.Fn test.now (λ d. p (definition_row d)) → result ≡ list_any p (map definition_row definitions.now) }
+    ensures { (p : DefinitionRow R → Bool) → Computes F.Fn test.now (λ d. p (definition_row d))
+        → result ≡ list_any p (map definition_row definitions.now) }
 {
     any(definitions, test)
 }
@@ -43,7 +44,8 @@ pub fn any_message<'a, F: Fn(&FlatMessage<'a>) -> bool>(
     test: &F,
 ) -> bool
     requires { F.IsAlwaysCallable test.now }
-    ensures { (p : FlatMessageRow → Bool) → Computes F.Fn test.now (λ m. p (message_row m)) → result ≡ list_any p (map message_row messages.now) }
+    ensures { (p : FlatMessageRow → Bool) → Computes F.Fn test.now (λ m. p (message_row m))
+        → result ≡ list_any p (map message_row messages.now) }
 {
     any(messages, test)
 }
@@ -62,7 +64,8 @@ pub fn any_service<'a, F: Fn(&FlatService<'a>) -> bool>(
     test: &F,
 ) -> bool
     requires { F.IsAlwaysCallable test.now }
-    ensures { (p : FlatServiceRow → Bool) → Computes F.Fn test.now (λ s. p (service_row s)) → result ≡ list_any p (map service_row services.now) }
+    ensures { (p : FlatServiceRow → Bool) → Computes F.Fn test.now (λ s. p (service_row s))
+        → result ≡ list_any p (map service_row services.now) }
 {
     any(services, test)
 }
@@ -84,7 +87,8 @@ fn any_in_messages<'a, F: Fn(&Definition<'a, FieldDescriptorProto>) -> bool>(
     test: &F,
 ) -> bool
     requires { F.IsAlwaysCallable test.now }
-    ensures { (p : DefinitionRow FieldDescriptorProto → Bool) → Computes F.Fn test.now (λ d. p (definition_row d)) → result ≡ list_any (λ m. list_any p m.fields) (map message_row messages.now) }
+    ensures { (p : DefinitionRow FieldDescriptorProto → Bool) → Computes F.Fn test.now (λ d. p (definition_row d))
+        → result ≡ list_any (λ m. list_any p m.fields) (map message_row messages.now) }
 {
     for message in messages {
         if any_definition(message.fields.as_slice(), test) {
@@ -100,7 +104,8 @@ pub fn any_field<'a, F: Fn(&Definition<'a, FieldDescriptorProto>) -> bool>(
     test: &F,
 ) -> bool
     requires { F.IsAlwaysCallable test.now }
-    ensures { (p : DefinitionRow FieldDescriptorProto → Bool) → Computes F.Fn test.now (λ d. p (definition_row d)) → result ≡ any_field p (flat_rows flat.now) }
+    ensures { (p : DefinitionRow FieldDescriptorProto → Bool) → Computes F.Fn test.now (λ d. p (definition_row d))
+        → result ≡ any_field p (flat_rows flat.now) }
 {
     any_in_messages(flat.messages.as_slice(), test)
         || any_definition(flat.extensions.as_slice(), test)
@@ -112,7 +117,8 @@ pub fn any_method<'a, F: Fn(&Definition<'a, MethodDescriptorProto>) -> bool>(
     test: &F,
 ) -> bool
     requires { F.IsAlwaysCallable test.now }
-    ensures { (p : DefinitionRow MethodDescriptorProto → Bool) → Computes F.Fn test.now (λ d. p (definition_row d)) → result ≡ list_any (λ s. list_any p s.methods) (map service_row services.now) }
+    ensures { (p : DefinitionRow MethodDescriptorProto → Bool) → Computes F.Fn test.now (λ d. p (definition_row d))
+        → result ≡ list_any (λ s. list_any p s.methods) (map service_row services.now) }
 {
     for service in services {
         if any_definition(service.methods.as_slice(), test) {

@@ -131,36 +131,59 @@ IsLentIf (Some n) m lent = IsLentOf m n lent
 
 -- Of the members of a oneof a message has one at most.
 abbrev pub HasOneMember : DynamicMessage → Type 0
-HasOneMember m = (k n : ℕ) → are_siblings (known_of (message_type_of m)) k n ≡ true → has_at k (content_of m) ≡ true → has_at n (content_of m) ≡ false
+HasOneMember m = (k n : ℕ) → are_siblings (known_of (message_type_of m)) k n ≡ true → has_at k (content_of m) ≡ true
+    → has_at n (content_of m) ≡ false
 
 -- So of two fields of the message's own type, of other numbers and of one oneof, it has one at most. Oneofs are told by their places.
 abbrev pub HasOneField : DynamicMessage → Type 0
-HasOneField m = (a b : FieldDescriptor) (j k n o : ℕ) → IsOwnField (message_type_of m) a → IsOwnField (message_type_of m) b → option_map (λ f. f.oneof) (row_at a) ≡ Some (Some j) → option_map (λ f. f.oneof) (row_at b) ≡ Some (Some k) → k ≡ j
-    → option_map (λ f. f.number) (row_at a) ≡ Some n → option_map (λ f. f.number) (row_at b) ≡ Some o → o ≢ n → has_at (number_of a) (content_of m) ≡ true → has_at (number_of b) (content_of m) ≡ false
+HasOneField m = (a b : FieldDescriptor) (j k n o : ℕ) → IsOwnField (message_type_of m) a
+    → IsOwnField (message_type_of m) b
+    → option_map (λ f. f.oneof) (row_at a) ≡ Some (Some j)
+    → option_map (λ f. f.oneof) (row_at b) ≡ Some (Some k)
+    → k ≡ j
+    → option_map (λ f. f.number) (row_at a) ≡ Some n
+    → option_map (λ f. f.number) (row_at b) ≡ Some o
+    → o ≢ n
+    → has_at (number_of a) (content_of m) ≡ true
+    → has_at (number_of b) (content_of m) ≡ false
 
 -- What is shown is in the content: the value of the number, or else the field's default.
 abbrev pub ShownContent : Type 0
-ShownContent = (m : DynamicMessage) (n : ℕ) (f : Field) (shown : Cow Value) → IsAscending (stored_in m) → field_of (known_of (message_type_of m)) n ≡ Some f → Shows m n shown
-    → kept_inside (value_of (cow_value shown)) ≡ value_or_default (schema_at (message_type_of m)) f (entries_of (kept (content_of m)))
+ShownContent = (m : DynamicMessage) (n : ℕ) (f : Field) (shown : Cow Value) → IsAscending (stored_in m)
+    → field_of (known_of (message_type_of m)) n ≡ Some f
+    → Shows m n shown
+    → kept_inside (value_of (cow_value shown))
+    ≡ value_or_default (schema_at (message_type_of m)) f (entries_of (kept (content_of m)))
 
 -- What a message has is what its content has, as it is stored.
 abbrev pub HadContent : Type 0
-HadContent = (m : DynamicMessage) (n : ℕ) → IsAscending (stored_in m) → option_map (λ v. kept_inside (value_of v)) (had_at n m) ≡ value_at n (entries_of (kept (content_of m)))
+HadContent = (m : DynamicMessage) (n : ℕ) → IsAscending (stored_in m)
+    → option_map (λ v. kept_inside (value_of v)) (had_at n m) ≡ value_at n (entries_of (kept (content_of m)))
 
 -- The field that the look-up of a number finds is known by that number; where it finds none, the number is no field's.
 abbrev pub NumberFound : Type 0
-NumberFound = (t : PooledType) (field : FieldDescriptor) (n : ℕ) → IsOwnField t field → declared_place (named.descriptor_fields field.message) n ≡ Some field.index → (number_of field ≡ n) × (is_field_number t n ≡ true)
+NumberFound = (t : PooledType) (field : FieldDescriptor) (n : ℕ) → IsOwnField t field
+    → declared_place (named.descriptor_fields field.message) n ≡ Some field.index
+    → (number_of field ≡ n) × (is_field_number t n ≡ true)
 
 abbrev pub NumberMissing : Type 0
-NumberMissing = (t : PooledType) (d : MessageDescriptor) (n : ℕ) → NamesEqual d t → declared_place (named.descriptor_fields d) n ≡ None → is_field_number t n ≡ false
+NumberMissing = (t : PooledType) (d : MessageDescriptor) (n : ℕ) → NamesEqual d t
+    → declared_place (named.descriptor_fields d) n ≡ None
+    → is_field_number t n ≡ false
 
 -- The same of the look-up of a name.
 abbrev pub NameFound : Type 0
-NameFound = (t : PooledType) (field : FieldDescriptor) (name : List ℕ) → IsOwnField t field → named_field (named.descriptor_fields field.message) name ≡ Some field.index → number_named t name ≡ Some (number_of field)
+NameFound = (t : PooledType) (field : FieldDescriptor) (name : List ℕ) → IsOwnField t field
+    → named_field (named.descriptor_fields field.message) name ≡ Some field.index
+    → number_named t name ≡ Some (number_of field)
 
 abbrev pub NameMissing : Type 0
-NameMissing = (t : PooledType) (d : MessageDescriptor) (name : List ℕ) → NamesEqual d t → named_field (named.descriptor_fields d) name ≡ None → number_named t name ≡ None
+NameMissing = (t : PooledType) (d : MessageDescriptor) (name : List ℕ) → NamesEqual d t
+    → named_field (named.descriptor_fields d) name ≡ None
+    → number_named t name ≡ None
 
 -- An own field takes what the message type's field of its number takes.
 abbrev pub TakesFound : Type 0
-TakesFound = (t : PooledType) (field : FieldDescriptor) (n : ℕ) (v : Value) → IsOwnField t field → option_map (λ f. f.number) (row_at field) ≡ Some n → takes field v ≡ takes_at t n v
+TakesFound = (t : PooledType) (field : FieldDescriptor) (n : ℕ) (v : Value) → IsOwnField t field
+    → option_map (λ f. f.number) (row_at field) ≡ Some n
+    → takes field v ≡ takes_at t n v

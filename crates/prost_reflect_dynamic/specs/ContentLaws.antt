@@ -34,16 +34,20 @@ pub record ValueViews : Type 0 where
   pub enum_number : (z : ℤ) → value_of (values.EnumNumber z) ≡ ScalarValue (scalars.EnumNumber z)
   pub message : (m : DynamicMessage) → value_of (values.Message m) ≡ MessageValue (content_of m)
   pub list : (vs : Vec Value Global) → value_of (values.List vs) ≡ ListValue (values_from (map value_of vs.items))
-  pub pairs : (m : BTreeMap MapKey Value) → value_of (values.Map m) ≡ MapValue (pairs_from (map (λ (e : MapKey × Value). (e.0, value_of e.1)) m.entries))
+  pub pairs : (m : BTreeMap MapKey Value)
+      → value_of (values.Map m) ≡ MapValue (pairs_from (map (λ (e : MapKey × Value). (e.0, value_of e.1)) m.entries))
 
 -- A message has at a number what it stores there.
 abbrev pub MessageSlots : Type 0
 MessageSlots = (m : DynamicMessage) (k : ℕ) → IsAscending (stored_in m)
-    → slot_at (entries_of (content_of m)) k ≡ record { value = option_map value_of (stored_at (stored_in m) k); unknowns = payloads_of (unwrap_or (records_at (stored_in m) k) []) }
+    → slot_at (entries_of (content_of m)) k
+    ≡ record { value = option_map value_of (stored_at (stored_in m) k); unknowns = payloads_of (unwrap_or (records_at (stored_in m) k) []) }
 
 -- The numbers of a message ascend, and what it has is in order where its values are.
 abbrev pub MessageOrder : Type 0
-MessageOrder = (m : DynamicMessage) → IsAscending (stored_in m) → ((k : ℕ) (v : Value) → stored_at (stored_in m) k ≡ Some v → value_ordered (value_of v) ≡ true) → entries_ordered (entries_of (content_of m)) ≡ true
+MessageOrder = (m : DynamicMessage) → IsAscending (stored_in m)
+    → ((k : ℕ) (v : Value) → stored_at (stored_in m) k ≡ Some v → value_ordered (value_of v) ≡ true)
+    → entries_ordered (entries_of (content_of m)) ≡ true
 
 -- At each number after a set, a clearing, and an unknown record.
 abbrev pub SlotsAfterSet : Type 0
@@ -59,8 +63,11 @@ SlotsAfterUnknown = (c : Content) (r : Record) (k : ℕ) → slot_at (entries_of
 
 -- Equal slots at every number are equal contents of messages of one type.
 abbrev pub SlotsDetermine : Type 0
-SlotsDetermine = (a b : DynamicMessage) → IsAscending (stored_in a) → IsAscending (stored_in b) → schema_of (content_of a) ≡ schema_of (content_of b) → type_of (content_of a) ≡ type_of (content_of b)
-    → ((k : ℕ) → slot_at (entries_of (content_of a)) k ≡ slot_at (entries_of (content_of b)) k) → content_of a ≡ content_of b
+SlotsDetermine = (a b : DynamicMessage) → IsAscending (stored_in a) → IsAscending (stored_in b)
+    → schema_of (content_of a) ≡ schema_of (content_of b)
+    → type_of (content_of a) ≡ type_of (content_of b)
+    → ((k : ℕ) → slot_at (entries_of (content_of a)) k ≡ slot_at (entries_of (content_of b)) k)
+    → content_of a ≡ content_of b
 
 -- The pairs that a map's entries are.
 abbrev pub pairs_shown : List (MapKey × Value) → Pairs
@@ -71,4 +78,5 @@ compare_keys = (key_order.ghosts).cmp
 
 -- An entry put into a map is put among its pairs.
 abbrev pub MapInsert : Type 0
-MapInsert = (es : List (MapKey × Value)) (k : MapKey) (v : Value) → pairs_shown (insert_entry compare_keys es k v) ≡ put (key_of k) (value_of v) (pairs_shown es)
+MapInsert = (es : List (MapKey × Value)) (k : MapKey) (v : Value)
+    → pairs_shown (insert_entry compare_keys es k v) ≡ put (key_of k) (value_of v) (pairs_shown es)

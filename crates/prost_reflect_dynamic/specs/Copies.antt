@@ -16,7 +16,8 @@ SameStored v w = (value_stored w ≡ value_stored v) × (value_of w ≡ value_of
 
 -- Two messages that store the same; so both are of one type, with one content.
 abbrev pub SameStoring : DynamicMessage → DynamicMessage → Type 0
-SameStoring a b = (message_stored b ≡ message_stored a) × SameMessage (message_type_of a) (message_type_of b) × (content_of b ≡ content_of a)
+SameStoring a b = (message_stored b ≡ message_stored a) × SameMessage (message_type_of a) (message_type_of b)
+    × (content_of b ≡ content_of a)
 
 -- Two slots that store the same.
 pub record SameSlot (e d : FieldSlot Value) : Type 0 where

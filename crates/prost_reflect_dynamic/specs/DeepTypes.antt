@@ -37,9 +37,11 @@ abbrev mutual
 
   pub entries_typed : List Content → TableRows → List Field → StoredEntries → Bool
   entries_typed files rows fields NothingStored = true
-  entries_typed files rows fields (ValueAt n v es) = value_typed files rows (place_for (field_of fields n) v) v && entries_typed files rows fields es
+  entries_typed files rows fields (ValueAt n v es) = value_typed files rows (place_for (field_of fields n) v) v
+      && entries_typed files rows fields es
   entries_typed files rows fields (UnknownAt n rs es) = entries_typed files rows fields es
-  entries_typed files rows fields (BothAt n v rs es) = value_typed files rows (place_for (field_of fields n) v) v && entries_typed files rows fields es
+  entries_typed files rows fields (BothAt n v rs es) = value_typed files rows (place_for (field_of fields n) v) v
+      && entries_typed files rows fields es
 
   pub value_typed : List Content → TableRows → Option ℕ → StoredValue → Bool
   value_typed files rows place (StoredScalar v) = true

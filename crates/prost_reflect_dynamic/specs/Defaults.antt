@@ -42,7 +42,9 @@ extension_default x = default_by_row x.pool (extension_row_named x)
 -- A message that stores neither values nor unknown fields, of the type at the place of the pool, or of one whose files hold the same.
 abbrev pub IsEmptyOf : Rc LinkedPool Global → ℕ → Option DynamicMessage → Type 0
 IsEmptyOf pool T None = ⊥
-IsEmptyOf pool T (Some m) = (pool_contents pool ≡ pool_contents (message_type_of m).pool) × (T ≡ (message_type_of m).index) × (stored_in m ≡ [])
+IsEmptyOf pool T (Some m) = (pool_contents pool ≡ pool_contents (message_type_of m).pool)
+    × (T ≡ (message_type_of m).index)
+    × (stored_in m ≡ [])
 
 -- The default of a message type, where there is one, or else this value.
 abbrev pub IsDefaultBy : Rc LinkedPool Global → Option ℕ → contents.Value → Value → Type 0

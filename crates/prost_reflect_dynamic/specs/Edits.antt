@@ -98,6 +98,9 @@ pub record LeavesSet (found : Option ℕ) (m : DynamicMessage) : Type 0 where
 
 -- Where a message is lent, and one of its type is left there that keeps what writing asks for, so does the message around it.
 pub record LeavesMessage (found : Option ℕ) (m : DynamicMessage) (lent : Value) : Type 0 where
-  pub sound : (a b : DynamicMessage) → lent ≡ values.Message a → message_type_of b ≡ message_type_of a → KeepsSound a b → KeepsSound m (left_if found m (values.Message b))
-  pub encodable : (a b : DynamicMessage) → lent ≡ values.Message a → KeepsEncodable a b → KeepsEncodable m (left_if found m (values.Message b))
-  pub typed : (a b : DynamicMessage) → lent ≡ values.Message a → message_type_of b ≡ message_type_of a → KeepsTyped a b → KeepsTyped m (left_if found m (values.Message b))
+  pub sound : (a b : DynamicMessage) → lent ≡ values.Message a → message_type_of b ≡ message_type_of a → KeepsSound a b
+      → KeepsSound m (left_if found m (values.Message b))
+  pub encodable : (a b : DynamicMessage) → lent ≡ values.Message a → KeepsEncodable a b
+      → KeepsEncodable m (left_if found m (values.Message b))
+  pub typed : (a b : DynamicMessage) → lent ≡ values.Message a → message_type_of b ≡ message_type_of a → KeepsTyped a b
+      → KeepsTyped m (left_if found m (values.Message b))

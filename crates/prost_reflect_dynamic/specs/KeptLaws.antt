@@ -40,6 +40,9 @@ KeptAfterClearAll = (c : Content) → kept (cleared c) ≡ cleared (kept c)
 
 -- Writing access to a field that is first set to its default where it has no value: what is lent, and what is left where w was written there.
 abbrev pub KeptAfterWriting : Type 0
-KeptAfterWriting = (c : Content) (n : ℕ) (default w : Value) (f : Field) → Arranged (entries_of c) → field_of (fields_in c) n ≡ Some f
-    → kept_inside default ≡ default_value (schema_of c) f.form f.value_type → field_valid (schema_of c) f ≡ true
-    → WritingAccess (schema_of c) (fields_in c) f (entries_of (kept c)) (unwrap_or (value_at n (entries_of c)) default) w (entries_of (kept (value_set n w c)))
+KeptAfterWriting = (c : Content) (n : ℕ) (default w : Value) (f : Field) → Arranged (entries_of c)
+    → field_of (fields_in c) n ≡ Some f
+    → kept_inside default ≡ default_value (schema_of c) f.form f.value_type
+    → field_valid (schema_of c) f ≡ true
+    → WritingAccess (schema_of c) (fields_in c) f (entries_of (kept c)) (unwrap_or (value_at n (entries_of c)) default)
+    w (entries_of (kept (value_set n w c)))

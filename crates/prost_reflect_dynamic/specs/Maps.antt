@@ -72,7 +72,8 @@ entry_bytes n enums key value_row k v = short_key n wires.LengthDelimited ++ sho
 -- The records of entries, one behind another.
 abbrev pub pairs_bytes : ℕ → List EnumRow → FieldRow → FieldRow → List (MapKey × Value) → List ℕ
 pairs_bytes n enums key value_row [] = []
-pairs_bytes n enums key value_row (e ∷ es) = entry_bytes n enums key value_row (key_of e.0) (value_of e.1) ++ pairs_bytes n enums key value_row es
+pairs_bytes n enums key value_row (e ∷ es) = entry_bytes n enums key value_row (key_of e.0) (value_of e.1)
+    ++ pairs_bytes n enums key value_row es
 
 abbrev pub IsMap : content.Value → Type 0
 IsMap (MapValue ps) = Unit {0}

@@ -26,7 +26,8 @@ pub record MergesMeaning (schema : Schema) (T : ℕ) (bytes : List ℕ) (old new
   -- Where the old content's encoding has a length, the records that it is written as, and those of the bytes behind them, mean the new content.
   pub written : length (encoded old) < 2 ^ 64 → IsMeaningOfRecords schema T (records old ++ items accepts.records) new
   -- So do any records that mean the old content, and those of the bytes behind them
-  pub behind : (front : List Record) → IsMeaningOfRecords schema T front old → IsMeaningOfRecords schema T (front ++ items accepts.records) new
+  pub behind : (front : List Record) → IsMeaningOfRecords schema T front old
+      → IsMeaningOfRecords schema T (front ++ items accepts.records) new
   -- and any bytes that mean it, and these behind them. So pieces of a message that are merged one by one mean what they mean as one.
   pub pieces : (front : List ℕ) → IsMeaningOfBytes schema T front old → IsMeaningOfBytes schema T (front ++ bytes) new
   -- The same record by record, whatever the length of the old content's encoding.

@@ -26,8 +26,13 @@ pub record NestedRead (is_group : Bool) (levels n : ℕ) (w : WireType) (old new
 
 -- Wherever such a key stands in front of the bytes as that of a field of the kind, which is no map, and ends no group, the fault stands there.
 abbrev pub StandsBehindNested : Schema → (levels n : ℕ) → Kind → WireType → DecodeError → List ℕ → Type 0
-StandsBehindNested schema levels n kind w e rest = (place : Place) (f : Field) → place.levels ≡ levels → field_at schema place.inside n ≡ Some f → is_map f.form ≡ false → f.value_type.kind ≡ kind
-    → KeyFront n w place.bytes rest → (w ≡ wires.EndGroup → place.open_group ≢ Some n) → Stands schema e place
+StandsBehindNested schema levels n kind w e rest = (place : Place) (f : Field) → place.levels ≡ levels
+    → field_at schema place.inside n ≡ Some f
+    → is_map f.form ≡ false
+    → f.value_type.kind ≡ kind
+    → KeyFront n w place.bytes rest
+    → (w ≡ wires.EndGroup → place.open_group ≢ Some n)
+    → Stands schema e place
 
 -- IN A VALUE
 

@@ -41,7 +41,8 @@ AreEntries key es = AllByRecursion (λ e. TakesScalar key (ScalarValue (key_of e
 
 -- The record of an entry, whose message is always written.
 abbrev pub nested_entry_bytes : ℕ → List EnumRow → FieldRow → Scalar → content.Value → List ℕ
-nested_entry_bytes n enums key k v = short_key n wires.LengthDelimited ++ short_plain (Len (key_bytes enums key k ++ element_bytes 2 false v))
+nested_entry_bytes n enums key k v = short_key n wires.LengthDelimited
+    ++ short_plain (Len (key_bytes enums key k ++ element_bytes 2 false v))
 
 -- The records of entries, one behind another.
 abbrev pub nested_pairs_bytes : ℕ → List EnumRow → FieldRow → List (MapKey × Value) → List ℕ

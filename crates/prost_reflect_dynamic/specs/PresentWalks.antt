@@ -72,13 +72,16 @@ present_left it = waiting_items it.unknown ++ all_items (known_of it.message_typ
 -- What is given of an item: the descriptor of the message type that has the number, and the value; or the unknown fields.
 abbrev pub IsItem : PooledType → PresentItem → Present → Type 0
 IsItem t (FieldItem n v) (given.Field field value) = IsOwnField t field × (number_of field ≡ n) × (value.now ≡ v)
-IsItem t (ExtensionItem n v) (given.Extension extension value) = IsOwnExtension t extension × (extension_number extension ≡ n) × (value.now ≡ v)
+IsItem t (ExtensionItem n v) (given.Extension extension value) = IsOwnExtension t extension
+    × (extension_number extension ≡ n)
+    × (value.now ≡ v)
 IsItem t (UnknownItem n u) (given.Unknown number unknown) = (number ≡ n) × (unknown.now ≡ u)
 IsItem t item present = ⊥
 
 -- One call of `next`.
 abbrev pub present_steps : PresentItems → Option (Result Present AllocError) → PresentItems → Type 0
-present_steps old present new = GivesNext (IsItem old.message_type.now) (present_left old) present (present_left new) × (new.message_type ≡ old.message_type)
+present_steps old present new = GivesNext (IsItem old.message_type.now) (present_left old) present (present_left new)
+    × (new.message_type ≡ old.message_type)
 
 -- A field or an extension is one of the message type.
 abbrev pub IsOwn : PooledType → Present → Type 0

@@ -12,11 +12,15 @@ use Rattle.prost_reflect_wire.specs.Typing.{Fitting}
 
 -- Within so many levels its type accepts the bytes exactly if it nests no deeper, and then they mean it.
 abbrev pub ReadsBack : Content → List ℕ → Type 0
-ReadsBack c bytes = (k : ℕ) → (Accepts (schema_of c) k (type_of c) bytes ↔ (levels c ≤ k)) × (levels c ≤ k → decoded (schema_of c) k (type_of c) bytes ≡ Some c)
+ReadsBack c bytes = (k : ℕ)
+    → (Accepts (schema_of c) k (type_of c) bytes ↔ (levels c ≤ k))
+    × (levels c ≤ k → decoded (schema_of c) k (type_of c) bytes ≡ Some c)
 
 -- Of all contents of its type that fit, and whose encoding has a length, the bytes are the encoding of this one alone.
 abbrev pub IsOnlyOf : Content → List ℕ → Type 0
-IsOnlyOf c bytes = (d : Content) → schema_of d ≡ schema_of c → type_of d ≡ type_of c → Fitting d → length (encoded d) < 2 ^ 64 → (bytes ≡ encoded d) ↔ (d ≡ c)
+IsOnlyOf c bytes = (d : Content) → schema_of d ≡ schema_of c → type_of d ≡ type_of c → Fitting d
+    → length (encoded d) < 2 ^ 64
+    → (bytes ≡ encoded d) ↔ (d ≡ c)
 
 -- Bytes that mean to a type what others do.
 pub record MeansSame (schema : Schema) (T : ℕ) (bytes written : List ℕ) : Type 0 where

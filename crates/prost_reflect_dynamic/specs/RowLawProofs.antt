@@ -53,20 +53,27 @@ linked_kept : (links : Links) (is_extension : Bool) (d : DefinitionRow FieldDesc
 unfolding linked_field
 linked_kept links is_extension d = record { presence = λ many. no_presence _ _ many; packed = λ is. and_parts _ _ (and_parts _ _ is).0 }
 
-mapped_kept : (links : Links) (is_extension : Bool) (ds : List (DefinitionRow FieldDescriptorProto)) → All LabelKept (map (linked_field links is_extension) ds)
+mapped_kept : (links : Links) (is_extension : Bool) (ds : List (DefinitionRow FieldDescriptorProto))
+    → All LabelKept (map (linked_field links is_extension) ds)
 mapped_kept links is_extension ds = All-map LabelKept (linked_field links is_extension) ds (λ k d within. linked_kept links is_extension (get_or ds k d))
 
-message_kept : (links : Links) (extensions : List (DefinitionRow FieldDescriptorProto)) (T : ℕ) (m : FlatMessageRow) → All LabelKept (linked_message (fields_of_message links extensions T m) m).fields
+message_kept : (links : Links) (extensions : List (DefinitionRow FieldDescriptorProto)) (T : ℕ) (m : FlatMessageRow)
+    → All LabelKept (linked_message (fields_of_message links extensions T m) m).fields
 message_kept links extensions T m =
     subst (All LabelKept) (sym (fields_shown (fields_of_message links extensions T m) m))
     (in_order_all LabelKept (fields_of_message links extensions T m) (All-append LabelKept (declared_fields links m.fields) (map (linked_field links true) (belonging (extended_place links) extensions T)) (mapped_kept links false m.fields) (mapped_kept links true (belonging (extended_place links) extensions T))))
 
-messages_kept : (links : Links) (extensions : List (DefinitionRow FieldDescriptorProto)) (T : ℕ) (ms : List FlatMessageRow) (i : ℕ) (m : MessageRow) → slice_get (messages_from links extensions T ms) i ≡ Some m → All LabelKept m.fields
+messages_kept : (links : Links) (extensions : List (DefinitionRow FieldDescriptorProto)) (T : ℕ)
+    (ms : List FlatMessageRow) (i : ℕ) (m : MessageRow)
+    → slice_get (messages_from links extensions T ms) i ≡ Some m
+    → All LabelKept m.fields
 messages_kept links extensions T [] i m e = absurd (none-some m e)
 messages_kept links extensions T (x ∷ ms) zero m e = subst (λ (r : MessageRow). All LabelKept r.fields) (same_Some (linked_message (fields_of_message links extensions T x) x) m e) (message_kept links extensions T x)
 messages_kept links extensions T (x ∷ ms) (suc i) m e = messages_kept links extensions (T + 1) ms i m e
 
-label_at : (files : List FileDescriptorProto) (rows : TableRows) (T i : ℕ) (f : FieldRow) → AreTablesOf files rows → slice_get (fields_at rows T) i ≡ Some f → LabelKept f
+label_at : (files : List FileDescriptorProto) (rows : TableRows) (T i : ℕ) (f : FieldRow) → AreTablesOf files rows
+    → slice_get (fields_at rows T) i ≡ Some f
+    → LabelKept f
 label_at files rows T i f built at = of (slice_get rows.messages T) refl at
   where
     of : (o : Option MessageRow) → slice_get rows.messages T ≡ o → slice_get (fields_or_none o) i ≡ Some f → LabelKept f
@@ -84,19 +91,22 @@ repeated_label rows row many = go row.cardinality (map_entry rows.messages row r
     go Required entry h = absurd (true≢false h)
     go RepeatedLabel entry h = refl
 
-own_presence : (rows : TableRows) (row : FieldRow) → is_singular (schema_field rows row).form ≡ true → (schema_field rows row).value_type.presence ≡ row.supports_presence
+own_presence : (rows : TableRows) (row : FieldRow) → is_singular (schema_field rows row).form ≡ true
+    → (schema_field rows row).value_type.presence ≡ row.supports_presence
 own_presence rows row single = go row.cardinality single
   where
     listed : (entry : Option MessageRow) → is_singular (form_of rows.enums row RepeatedLabel entry) ≡ true → ⊥
     listed None h = true≢false (sym h)
     listed (Some m) h = true≢false (sym h)
 
-    go : (c : Cardinality) → is_singular (form_of rows.enums row c (map_entry rows.messages row c)) ≡ true → (value_type_of rows.enums row (map_entry rows.messages row c)).presence ≡ row.supports_presence
+    go : (c : Cardinality) → is_singular (form_of rows.enums row c (map_entry rows.messages row c)) ≡ true
+        → (value_type_of rows.enums row (map_entry rows.messages row c)).presence ≡ row.supports_presence
     go Optional h = refl
     go Required h = refl
     go RepeatedLabel h = absurd (listed (map_entry rows.messages row RepeatedLabel) h)
 
-packable_list : (rows : TableRows) (row : FieldRow) → is_repeated row.cardinality ≡ true → is_packable row.kind ≡ true → is_list (schema_field rows row).form ≡ true
+packable_list : (rows : TableRows) (row : FieldRow) → is_repeated row.cardinality ≡ true → is_packable row.kind ≡ true
+    → is_list (schema_field rows row).form ≡ true
 packable_list rows row many packable = go row.cardinality many
   where
     bare : (g : Bool) (kind : TableKind) → is_packable kind ≡ true → cond g None (entry_at rows.messages kind) ≡ None
@@ -111,14 +121,18 @@ packable_list rows row many packable = go row.cardinality many
 
 -- ROWS
 
-pub row_checked : (rows : TableRows) (T i : ℕ) (row : FieldRow) → is_linked rows ≡ true → slice_get (fields_at rows T) i ≡ Some row → field_valid (schema_from rows) (schema_field rows row) ≡ true
+pub row_checked : (rows : TableRows) (T i : ℕ) (row : FieldRow) → is_linked rows ≡ true
+    → slice_get (fields_at rows T) i ≡ Some row
+    → field_valid (schema_from rows) (schema_field rows row) ≡ true
 row_checked rows T i row linked at = found_valid (schema_from rows) (known (schema_from rows) T) row.number (schema_field rows row) (known_valid (schema_from rows) T (schema_is_valid rows linked)) (known_row rows T i row linked at)
 
 -- a default fits its field
-pub default_fits : (schema : Schema) (f : Field) → field_valid schema f ≡ true → value_valid f (default_value schema f.form f.value_type) ≡ true
+pub default_fits : (schema : Schema) (f : Field) → field_valid schema f ≡ true
+    → value_valid f (default_value schema f.form f.value_type) ≡ true
 default_fits schema f valid = go f.form f.value_type.kind refl refl
   where
-    go : (form : FieldForm) (kind : Kind) → f.form ≡ form → f.value_type.kind ≡ kind → value_valid f (default_value schema f.form f.value_type) ≡ true
+    go : (form : FieldForm) (kind : Kind) → f.form ≡ form → f.value_type.kind ≡ kind
+        → value_valid f (default_value schema f.form f.value_type) ≡ true
     go Singular (ScalarOf k) e h = rw (e, h) (ap (λ kind. default_valid kind f.value_type.default) (sym h) ∙ (checked_field schema f valid).default)
     go Singular (MessageOf T) e h = rw (e, h) refl
     go Singular (GroupOf T) e h = rw (e, h) refl
@@ -190,11 +204,15 @@ some_there [] i less none = omega arith
 some_there (x ∷ xs) zero less none = cc
 some_there (x ∷ xs) (suc i) less none = some_there xs i (omega arith) none
 
-pub extension_keeps : (x : ExtensionDescriptor) (P : FieldRow → Type 0) →
-    ((e : ExtensionRow) (row : FieldRow) → extension_named x ≡ Some e → slice_get (fields_at (pool_rows x.pool.inner) e.message) e.field ≡ Some row → P row) → IsSomeAnd (extension_row_named x) P
+pub extension_keeps : (x : ExtensionDescriptor) (P : FieldRow → Type 0)
+    → ((e : ExtensionRow) (row : FieldRow) → extension_named x ≡ Some e
+    → slice_get (fields_at (pool_rows x.pool.inner) e.message) e.field ≡ Some row
+    → P row)
+    → IsSomeAnd (extension_row_named x) P
 extension_keeps x P h = go (extension_named x) refl
   where
-    go : (o : Option ExtensionRow) → extension_named x ≡ o → IsSomeAnd (option_and_then (λ e. slice_get (fields_at (pool_rows x.pool.inner) e.message) e.field) o) P
+    go : (o : Option ExtensionRow) → extension_named x ≡ o
+        → IsSomeAnd (option_and_then (λ e. slice_get (fields_at (pool_rows x.pool.inner) e.message) e.field) o) P
     go None e = absurd (some_there (pool_catalog x.pool.inner).extensions x.index x.in_range e)
     go (Some r) e = subst (λ (o : Option FieldRow). IsSomeAnd o P) (sym (extension_of x.pool.inner.value x.index r e).at) (h r _ e (extension_of x.pool.inner.value x.index r e).at)
 

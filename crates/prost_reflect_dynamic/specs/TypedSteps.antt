@@ -32,7 +32,9 @@ pub record StaysTyped (old new : DynamicMessage) : Type 0 where
 
 -- The same of the messages in a value, whatever their type is.
 pub record ValueStaysTyped (old new : Value) : Type 0 where
-  pub typed : (files : List Content) (rows : TableRows) (place : Option ℕ) → value_typed files rows place (value_stored old) ≡ true → value_typed files rows place (value_stored new) ≡ true
+  pub typed : (files : List Content) (rows : TableRows) (place : Option ℕ)
+      → value_typed files rows place (value_stored old) ≡ true
+      → value_typed files rows place (value_stored new) ≡ true
 
 -- A value behind the elements of the list that is stored.
 abbrev pub item_last : StoredItems → StoredValue → StoredItems

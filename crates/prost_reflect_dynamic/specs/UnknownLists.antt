@@ -47,4 +47,5 @@ without_unknown (Unknown n p es) = without_unknown es
 
 -- The unknown fields of a message are the unknown records of its content.
 abbrev pub UnknownListed : Type 0
-UnknownListed = (m : DynamicMessage) → IsAscending (stored_in m) → IsSound (message_type_of m) (stored_in m) → map unknown_record (all_unknown (stored_in m)) ≡ unknown_records (entries_of (content_of m))
+UnknownListed = (m : DynamicMessage) → IsAscending (stored_in m) → IsSound (message_type_of m) (stored_in m)
+    → map unknown_record (all_unknown (stored_in m)) ≡ unknown_records (entries_of (content_of m))

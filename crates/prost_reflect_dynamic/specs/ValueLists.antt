@@ -64,7 +64,11 @@ IsExtensionPair t pair given = IsOwnExtension t given.0 × (extension_number giv
 
 -- One call of `next`.
 abbrev pub fields_steps : Fields → Option (Result (FieldDescriptor × Bor Value) AllocError) → Fields → Type 0
-fields_steps old given new = GivesNext (IsFieldPair old.values.message_type.now) (fields_left old) given (fields_left new) × (new.values.message_type ≡ old.values.message_type)
+fields_steps old given new = GivesNext (IsFieldPair old.values.message_type.now) (fields_left old) given
+    (fields_left new)
+    × (new.values.message_type ≡ old.values.message_type)
 
 abbrev pub extensions_steps : Extensions → Option (Result (ExtensionDescriptor × Bor Value) AllocError) → Extensions → Type 0
-extensions_steps old given new = GivesNext (IsExtensionPair old.values.message_type.now) (extensions_left old) given (extensions_left new) × (new.values.message_type ≡ old.values.message_type)
+extensions_steps old given new = GivesNext (IsExtensionPair old.values.message_type.now) (extensions_left old) given
+    (extensions_left new)
+    × (new.values.message_type ≡ old.values.message_type)

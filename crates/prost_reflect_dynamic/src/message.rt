@@ -172,7 +172,8 @@ impl DynamicMessage {
         ensures message_type { message_type_of self.new ≡ message_type_of self.old }
         ensures content { OnOk result (content_of self.new ≡ value_set number (value_of value) (content_of self.old)) }
         ensures sets { OnOk result (takes_at (message_type_of self.old) number value ≡ true → Sets (Some number) value self.old self.new) }
-        ensures typed { OnOk result (typed_at (message_type_of self.old) number (value_stored value) ≡ true → StaysTyped self.old self.new) }
+        ensures typed { OnOk result
+            (typed_at (message_type_of self.old) number (value_stored value) ≡ true → StaysTyped self.old self.new) }
         ensures err { OnErr result (self.new ≡ self.old) }
     {
         self.fields.set(number, value)
@@ -189,7 +190,8 @@ impl DynamicMessage {
         requires oneof { oneof ≡ oneof_of (known_of (message_type_of self.old)) number }
         ensures message_type { message_type_of self.new ≡ message_type_of self.old }
         ensures content { OnOk result (content_of self.new ≡ value_set number (value_of value) (content_of self.old)) }
-        ensures typed { OnOk result (typed_at (message_type_of self.old) number (value_stored value) ≡ true → StaysTyped self.old self.new) }
+        ensures typed { OnOk result
+            (typed_at (message_type_of self.old) number (value_stored value) ≡ true → StaysTyped self.old self.new) }
         ensures err { OnErr result (self.new ≡ self.old) }
     {
         self.fields.set_member(number, oneof, value)
@@ -253,7 +255,10 @@ impl DynamicMessage {
         ensures* writes_back { sem 𝓛 (LendsIf the_row value.the_row self.entry result (overwritten_at self.old number) self.old) }
         ensures stored { option_copied_mut result ≡ stored_at (stored_in self.old) number }
         ensures value { option_map value_of (option_copied_mut result) ≡ value_at number (entries_of (content_of self.old)) }
-        ensures content { (v : Value) → IfSome result (λ _. content_of (overwritten_at self.old number v) ≡ value_set number (value_of v) (content_of self.old)) }
+        ensures content { (v : Value)
+            → IfSome result
+            (λ _. content_of (overwritten_at self.old number v)
+            ≡ value_set number (value_of v) (content_of self.old)) }
         ensures ascending { IsAscending (stored_in self.old) }
     {
         self.fields.get_mut(number)
@@ -270,9 +275,12 @@ impl DynamicMessage {
         requires { is_known (known_of (message_type_of self.old)) number ≡ true }
         ensures* writes_back { sem 𝓛 (LendsIfOk the_row value.the_row self.entry result (written_at self.old number default) self.old) }
         ensures stored { IfOk result (λ lent. lent.now ≡ unwrap_or (stored_at (stored_in self.old) number) default) }
-        ensures value { IfOk result (λ lent. value_of lent.now ≡ unwrap_or (value_at number (entries_of (content_of self.old))) (value_of default)) }
+        ensures value { IfOk result
+            (λ lent. value_of lent.now
+            ≡ unwrap_or (value_at number (entries_of (content_of self.old))) (value_of default)) }
         ensures message_type { (v : Value) → message_type_of (written_at self.old number default v) ≡ message_type_of self.old }
-        ensures content { (v : Value) → content_of (written_at self.old number default v) ≡ value_set number (value_of v) (content_of self.old) }
+        ensures content { (v : Value)
+            → content_of (written_at self.old number default v) ≡ value_set number (value_of v) (content_of self.old) }
         ensures ascending { IsAscending (stored_in self.old) }
     {
         self.fields.get_mut_or(number, default)

@@ -27,7 +27,8 @@ pub fn field_named(
     message_type: &MessageDescriptor,
     name: &str,
 ) -> Result<Option<FieldDescriptor>, AllocError>
-    ensures found { IfOk result (λ found. option_map (λ field. field.index) found ≡ named_field (descriptor_fields message_type.now) name.now) }
+    ensures found { IfOk result
+        (λ found. option_map (λ field. field.index) found ≡ named_field (descriptor_fields message_type.now) name.now) }
     ensures missing { named_field (descriptor_fields message_type.now) name.now ≡ None → IsOk result }
 {
     message_type.get_field_by_name(name)
@@ -54,7 +55,9 @@ pub fn is_reduction(
     older: &MessageDescriptor,
     newer: &MessageDescriptor,
 ) -> Result<bool, AllocError>
-    ensures { IfOk result (λ yes. Reduced (schema_named older.now) (type_named older.now) (schema_named newer.now) (type_named newer.now) ↔ IsTrue yes) }
+    ensures { IfOk result
+        (λ yes. Reduced (schema_named older.now) (type_named older.now) (schema_named newer.now) (type_named newer.now)
+        ↔ IsTrue yes) }
 {
     older.is_reduction_of(newer)
 }

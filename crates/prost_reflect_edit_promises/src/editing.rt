@@ -77,7 +77,8 @@ pub fn set(
 /// `OutOfMemory` if memory runs out; the message stays.
 pub fn try_set(message: &mut DynamicMessage, number: u32, value: Value) -> Result<(), SetFieldError>
     ensures sets { OnOk result (Sets (number_declared (message_type_of message.old) number) value message.old message.new) }
-    ensures refused { IfErr result (RefusesFound (message_type_of message.old) (number_declared (message_type_of message.old) number) value) }
+    ensures refused { IfErr result
+        (RefusesFound (message_type_of message.old) (number_declared (message_type_of message.old) number) value) }
     ensures unchanged { OnErr result (message.new ≡ message.old) }
 {
     message.try_set_field_by_number(number, value)

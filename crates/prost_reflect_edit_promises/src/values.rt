@@ -35,7 +35,9 @@ pub fn is_default_of(value: &Value, kind: &Kind) -> bool
 ///
 /// `AllocError` if out of memory.
 pub fn spelled(alloc: Global, kind: &Kind, text: &str) -> Result<Option<Value>, AllocError>
-    ensures { IfOk result (λ value. option_map value_of value ≡ option_map ScalarValue (field_default (table_kind kind.now) (values_named kind.now) text.now)) }
+    ensures { IfOk result
+        (λ value. option_map value_of value
+        ≡ option_map ScalarValue (field_default (table_kind kind.now) (values_named kind.now) text.now)) }
 {
     Value::from_text(alloc, kind, text)
 }

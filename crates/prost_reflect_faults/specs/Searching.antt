@@ -158,7 +158,8 @@ pub record TakesScalar (kind : TableKind) (w : WireType) (bytes rest : List ℕ)
 
 abbrev pub RefusesScalar : TableKind → WireType → DecodeError → List ℕ → Type 0
 RefusesScalar kind w errors.WireType bytes = same_wire w (wire_of_kind kind) ≡ false
-RefusesScalar kind w errors.Utf8 bytes = (kind ≡ kinds.String) × (w ≡ wires.LengthDelimited) × ((body rest : List ℕ) × DelimitedFront body bytes rest × (is_utf8 body ≡ false))
+RefusesScalar kind w errors.Utf8 bytes = (kind ≡ kinds.String) × (w ≡ wires.LengthDelimited)
+    × ((body rest : List ℕ) × DelimitedFront body bytes rest × (is_utf8 body ≡ false))
 RefusesScalar kind w e bytes = PlainFault e w bytes
 
 -- Payloads of the wire type, end to end.

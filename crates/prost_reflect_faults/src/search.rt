@@ -57,7 +57,9 @@ struct Keyed<'a> {
 pub fn decode_fault(tables: &Tables, message: usize, bytes: &[u8]) -> Option<DecodeFault>
     requires { message < length (rows_of tables.now).messages }
     ensures none { Accepts (schema_of tables.now) LEVEL_LIMIT message bytes.now ↔ IsTrue (is_none result) }
-    ensures stands { (fault : DecodeFault) → result ≡ Some fault → StandsAt (schema_of tables.now) (message_place LEVEL_LIMIT message bytes.now) fault.error fault.offset fault.path.items }
+    ensures stands { (fault : DecodeFault) → result ≡ Some fault
+        → StandsAt (schema_of tables.now) (message_place LEVEL_LIMIT message bytes.now) fault.error fault.offset
+        fault.path.items }
 {
     let mut path = ArrayVec::new();
     let region = Region {
@@ -131,7 +133,9 @@ fn search_body<'a>(
     requires path { path.old.items ≡ [] }
     ensures ok { IfOk result (λ rest. TakesBody (schema_of tables.now) (place_at (rows_of tables.now) region.entry bytes.now) rest.now) }
     ensures kept { OnOk result (path.new.items ≡ []) }
-    ensures fault { IfErr result (λ found. StandsAt (schema_of tables.now) (place_at (rows_of tables.now) region.entry bytes.now) found.error found.offset path.new.items) }
+    ensures fault { IfErr result
+        (λ found. StandsAt (schema_of tables.now) (place_at (rows_of tables.now) region.entry bytes.now) found.error
+        found.offset path.new.items) }
 {
     let mut rest = bytes;
     loop {
@@ -188,9 +192,13 @@ fn search_record<'a>(
     requires path { path.old.items ≡ [] }
     requires key { KeyFront keyed.number.value keyed.wire_type keyed.from.now keyed.behind.now }
     requires other { keyed.wire_type ≢ wires.EndGroup }
-    ensures ok { IfOk result (λ rest. TakesPayload (schema_of tables.now) (place_at (rows_of tables.now) region.entry keyed.entry.from.now) keyed.entry.number.value keyed.entry.wire_type keyed.entry.behind.now rest.now) }
+    ensures ok { IfOk result
+        (λ rest. TakesPayload (schema_of tables.now) (place_at (rows_of tables.now) region.entry keyed.entry.from.now)
+        keyed.entry.number.value keyed.entry.wire_type keyed.entry.behind.now rest.now) }
     ensures kept { OnOk result (path.new.items ≡ []) }
-    ensures fault { IfErr result (λ found. StandsAt (schema_of tables.now) (place_at (rows_of tables.now) region.entry keyed.entry.from.now) found.error found.offset path.new.items) }
+    ensures fault { IfErr result
+        (λ found. StandsAt (schema_of tables.now) (place_at (rows_of tables.now) region.entry keyed.entry.from.now)
+        found.error found.offset path.new.items) }
 {
     match known_inside(tables, region.inside, keyed.number.get()) {
         Some(known) => search_known(tables, path, region, keyed, known),
@@ -215,9 +223,13 @@ fn search_known<'a>(
     requires key { KeyFront keyed.number.value keyed.wire_type keyed.from.now keyed.behind.now }
     requires other { keyed.wire_type ≢ wires.EndGroup }
     requires known { KnownAt (rows_of tables.now) region.inside keyed.number.value known }
-    ensures ok { IfOk result (λ rest. TakesPayload (schema_of tables.now) (place_at (rows_of tables.now) region.entry keyed.entry.from.now) keyed.entry.number.value keyed.entry.wire_type keyed.entry.behind.now rest.now) }
+    ensures ok { IfOk result
+        (λ rest. TakesPayload (schema_of tables.now) (place_at (rows_of tables.now) region.entry keyed.entry.from.now)
+        keyed.entry.number.value keyed.entry.wire_type keyed.entry.behind.now rest.now) }
     ensures kept { OnOk result (path.new.items ≡ []) }
-    ensures fault { IfErr result (λ found. StandsAt (schema_of tables.now) (place_at (rows_of tables.now) region.entry keyed.entry.from.now) found.error found.offset path.new.items) }
+    ensures fault { IfErr result
+        (λ found. StandsAt (schema_of tables.now) (place_at (rows_of tables.now) region.entry keyed.entry.from.now)
+        found.error found.offset path.new.items) }
 {
     match known {
         Known::One(row) => search_value(tables, path, region, keyed, row),
@@ -244,11 +256,16 @@ fn search_value<'a>(
     requires path { path.old.items ≡ [] }
     requires key { KeyFront keyed.number.value keyed.wire_type keyed.from.now keyed.behind.now }
     requires other { keyed.wire_type ≢ wires.EndGroup }
-    requires field { KindField (schema_of tables.now) (place_at (rows_of tables.now) region keyed.from.now) keyed.number.value keyed.wire_type (type_of_row (rows_of tables.now) row.now).kind }
+    requires field { KindField (schema_of tables.now) (place_at (rows_of tables.now) region keyed.from.now)
+        keyed.number.value keyed.wire_type (type_of_row (rows_of tables.now) row.now).kind }
     requires there { MessageThere (rows_of tables.now) (type_of_row (rows_of tables.now) row.now) }
-    ensures ok { IfOk result (λ rest. TakesPayload (schema_of tables.now) (place_at (rows_of tables.now) region.entry keyed.entry.from.now) keyed.entry.number.value keyed.entry.wire_type keyed.entry.behind.now rest.now) }
+    ensures ok { IfOk result
+        (λ rest. TakesPayload (schema_of tables.now) (place_at (rows_of tables.now) region.entry keyed.entry.from.now)
+        keyed.entry.number.value keyed.entry.wire_type keyed.entry.behind.now rest.now) }
     ensures kept { OnOk result (path.new.items ≡ []) }
-    ensures fault { IfErr result (λ found. StandsAt (schema_of tables.now) (place_at (rows_of tables.now) region.entry keyed.entry.from.now) found.error found.offset path.new.items) }
+    ensures fault { IfErr result
+        (λ found. StandsAt (schema_of tables.now) (place_at (rows_of tables.now) region.entry keyed.entry.from.now)
+        found.error found.offset path.new.items) }
 {
     match row.kind {
         TableKind::Message(place) => {
@@ -277,11 +294,16 @@ fn search_group<'a>(
     requires path { path.old.items ≡ [] }
     requires key { KeyFront keyed.number.value keyed.wire_type keyed.from.now keyed.behind.now }
     requires start { keyed.wire_type ≡ wires.StartGroup }
-    requires group { GroupInside (schema_of tables.now) (place_at (rows_of tables.now) region keyed.from.now) keyed.number.value (among (rows_of tables.now) inside) }
+    requires group { GroupInside (schema_of tables.now) (place_at (rows_of tables.now) region keyed.from.now)
+        keyed.number.value (among (rows_of tables.now) inside) }
     requires there { InsideThere (rows_of tables.now) inside }
-    ensures ok { IfOk result (λ rest. TakesPayload (schema_of tables.now) (place_at (rows_of tables.now) region.entry keyed.entry.from.now) keyed.entry.number.value keyed.entry.wire_type keyed.entry.behind.now rest.now) }
+    ensures ok { IfOk result
+        (λ rest. TakesPayload (schema_of tables.now) (place_at (rows_of tables.now) region.entry keyed.entry.from.now)
+        keyed.entry.number.value keyed.entry.wire_type keyed.entry.behind.now rest.now) }
     ensures kept { OnOk result (path.new.items ≡ []) }
-    ensures fault { IfErr result (λ found. StandsAt (schema_of tables.now) (place_at (rows_of tables.now) region.entry keyed.entry.from.now) found.error found.offset path.new.items) }
+    ensures fault { IfErr result
+        (λ found. StandsAt (schema_of tables.now) (place_at (rows_of tables.now) region.entry keyed.entry.from.now)
+        found.error found.offset path.new.items) }
 {
     if region.levels == 0 {
         return Err(Found::from(DecodeError::Depth));
@@ -311,11 +333,16 @@ fn search_message<'a>(
     requires path { path.old.items ≡ [] }
     requires key { KeyFront keyed.number.value keyed.wire_type keyed.from.now keyed.behind.now }
     requires other { keyed.wire_type ≢ wires.EndGroup }
-    requires field { KindField (schema_of tables.now) (place_at (rows_of tables.now) region keyed.from.now) keyed.number.value keyed.wire_type (MessageOf place) }
+    requires field { KindField (schema_of tables.now) (place_at (rows_of tables.now) region keyed.from.now)
+        keyed.number.value keyed.wire_type (MessageOf place) }
     requires there { place < length (rows_of tables.now).messages }
-    ensures ok { IfOk result (λ rest. TakesPayload (schema_of tables.now) (place_at (rows_of tables.now) region.entry keyed.entry.from.now) keyed.entry.number.value keyed.entry.wire_type keyed.entry.behind.now rest.now) }
+    ensures ok { IfOk result
+        (λ rest. TakesPayload (schema_of tables.now) (place_at (rows_of tables.now) region.entry keyed.entry.from.now)
+        keyed.entry.number.value keyed.entry.wire_type keyed.entry.behind.now rest.now) }
     ensures kept { OnOk result (path.new.items ≡ []) }
-    ensures fault { IfErr result (λ found. StandsAt (schema_of tables.now) (place_at (rows_of tables.now) region.entry keyed.entry.from.now) found.error found.offset path.new.items) }
+    ensures fault { IfErr result
+        (λ found. StandsAt (schema_of tables.now) (place_at (rows_of tables.now) region.entry keyed.entry.from.now)
+        found.error found.offset path.new.items) }
 {
     if keyed.wire_type != WireType::LengthDelimited {
         return Err(Found::from(DecodeError::WireType));
@@ -350,11 +377,17 @@ fn search_entry<'a>(
     requires path { path.old.items ≡ [] }
     requires key { KeyFront keyed.number.value keyed.wire_type keyed.from.now keyed.behind.now }
     requires other { keyed.wire_type ≢ wires.EndGroup }
-    requires field { MapField (schema_of tables.now) (place_at (rows_of tables.now) region keyed.from.now) keyed.number.value (type_of_row (rows_of tables.now) key.now) (type_of_row (rows_of tables.now) value.now) }
-    requires there { MessageThere (rows_of tables.now) (type_of_row (rows_of tables.now) key.now) × MessageThere (rows_of tables.now) (type_of_row (rows_of tables.now) value.now) }
-    ensures ok { IfOk result (λ rest. TakesPayload (schema_of tables.now) (place_at (rows_of tables.now) region.entry keyed.entry.from.now) keyed.entry.number.value keyed.entry.wire_type keyed.entry.behind.now rest.now) }
+    requires field { MapField (schema_of tables.now) (place_at (rows_of tables.now) region keyed.from.now)
+        keyed.number.value (type_of_row (rows_of tables.now) key.now) (type_of_row (rows_of tables.now) value.now) }
+    requires there { MessageThere (rows_of tables.now) (type_of_row (rows_of tables.now) key.now)
+        × MessageThere (rows_of tables.now) (type_of_row (rows_of tables.now) value.now) }
+    ensures ok { IfOk result
+        (λ rest. TakesPayload (schema_of tables.now) (place_at (rows_of tables.now) region.entry keyed.entry.from.now)
+        keyed.entry.number.value keyed.entry.wire_type keyed.entry.behind.now rest.now) }
     ensures kept { OnOk result (path.new.items ≡ []) }
-    ensures fault { IfErr result (λ found. StandsAt (schema_of tables.now) (place_at (rows_of tables.now) region.entry keyed.entry.from.now) found.error found.offset path.new.items) }
+    ensures fault { IfErr result
+        (λ found. StandsAt (schema_of tables.now) (place_at (rows_of tables.now) region.entry keyed.entry.from.now)
+        found.error found.offset path.new.items) }
 {
     if keyed.wire_type != WireType::LengthDelimited {
         return Err(Found::from(DecodeError::WireType));
@@ -392,7 +425,9 @@ fn search_inside<'a>(
     requires before { before + length bytes.now < 2 ^ 64 }
     ensures ok { IfOk result (λ rest. TakesBody (schema_of tables.now) (place_at (rows_of tables.now) region.entry bytes.now) rest.now) }
     ensures kept { OnOk result (path.new.items ≡ []) }
-    ensures fault { IfErr result (λ found. StandsInside (schema_of tables.now) (place_at (rows_of tables.now) region.entry bytes.now) number.value before found.error found.offset path.new.items) }
+    ensures fault { IfErr result
+        (λ found. StandsInside (schema_of tables.now) (place_at (rows_of tables.now) region.entry bytes.now)
+        number.value before found.error found.offset path.new.items) }
 {
     match search_body(tables, path, region, bytes) {
         Ok(rest) => Ok(rest),

@@ -14,7 +14,8 @@ is_member table oneof n k = not (nat_eq k n) && list_any (λ f. nat_eq f.number 
 
 -- Each member of the oneof stands at one of the places.
 abbrev pub HasMembers : List FieldRow → Option ℕ → List ℕ → Type 0
-HasMembers fields oneof places = (i : ℕ) (f : FieldRow) → slice_get fields i ≡ Some f → same_oneof f.oneof oneof ≡ true → list_any (nat_eq i) places ≡ true
+HasMembers fields oneof places = (i : ℕ) (f : FieldRow) → slice_get fields i ≡ Some f → same_oneof f.oneof oneof ≡ true
+    → list_any (nat_eq i) places ≡ true
 
 -- The rows at places.
 abbrev pub rows_at : List FieldTable → List ℕ → List FieldTable

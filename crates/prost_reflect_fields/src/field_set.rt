@@ -313,7 +313,9 @@ impl<V: Drop> FieldSet<V> {
 
     /// The value at the number, for writing.
     pub fn get_mut(&mut self, number: u32) -> Option<&mut V>
-        ensures* writes_back { sem 𝓛 (LendsIf (the_row V.row) V.row self.entry result (λ w. (self.old.0, with_value self.old.1 number w)) self.old) }
+        ensures* writes_back { sem 𝓛
+            (LendsIf (the_row V.row) V.row self.entry result (λ w. (self.old.0, with_value self.old.1 number w))
+            self.old) }
         ensures value { option_copied_mut result ≡ stored_at self.old.1 number }
         ensures ascending { IsAscending self.old.1 }
         ensures sound { IsSound self.old.0 self.old.1 }
@@ -326,7 +328,10 @@ impl<V: Drop> FieldSet<V> {
     /// If out of memory, nothing changes.
     pub fn get_mut_or(&mut self, number: u32, default: V) -> Result<&mut V, AllocError>
         requires { is_known (known_of self.old.0) number ≡ true }
-        ensures* writes_back { sem 𝓛 (LendsIfOk (the_row V.row) V.row self.entry result (λ w. (self.old.0, with_value (prepared (known_of self.old.0) self.old.1 number default) number w)) self.old) }
+        ensures* writes_back { sem 𝓛
+            (LendsIfOk (the_row V.row) V.row self.entry result
+            (λ w. (self.old.0, with_value (prepared (known_of self.old.0) self.old.1 number default) number w))
+            self.old) }
         ensures value { IfOk result (λ v. stored_at (prepared (known_of self.old.0) self.old.1 number default) number ≡ Some v.now) }
         ensures ascending { IsAscending self.old.1 }
         ensures sound { IsSound self.old.0 self.old.1 }

@@ -51,8 +51,12 @@ pub trait SlotMap<V: Drop>: NumberMap<FieldSlot<V>> {
         default: V,
     ) -> Result<&mut V, AllocError>
         requires { AreNoted (known_of message_type.now) (Self.noted self.old) (Self.entries self.old) }
-        ensures* writes_back { sem 𝓛 (LendsValue Self.row V.row self.entry result Self.entries Self.noted (known_of message_type.now) (Self.entries self.old) number default) }
-        ensures value { IfOk result (λ v. stored_at (prepared (known_of message_type.now) (Self.entries self.old) number default) number ≡ Some v.now) }
+        ensures* writes_back { sem 𝓛
+            (LendsValue Self.row V.row self.entry result Self.entries Self.noted (known_of message_type.now)
+            (Self.entries self.old) number default) }
+        ensures value { IfOk result
+            (λ v. stored_at (prepared (known_of message_type.now) (Self.entries self.old) number default) number
+            ≡ Some v.now) }
         ensures ascending { IsAscending (Self.entries self.old) }
     {
         value_mut_or(self, alloc, message_type, number, default)

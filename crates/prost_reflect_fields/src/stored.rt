@@ -198,7 +198,11 @@ fn clear_noted<V: Drop, S: NumberMap<FieldSlot<V>>>(
 
 /// The value at the number, for writing.
 pub fn value_mut<V, S: NumberMap<FieldSlot<V>>>(fields: &mut S, number: u32) -> Option<&mut V>
-    ensures* writes_back { sem 𝓛 (LendsSo S.row V.row fields.entry result (λ after w. (S.entries after ≡ with_value (S.entries fields.old) number w) × (S.noted after ≡ S.noted fields.old)) (λ after. (S.entries after ≡ S.entries fields.old) × (S.noted after ≡ S.noted fields.old))) }
+    ensures* writes_back { sem 𝓛
+        (LendsSo S.row V.row fields.entry result
+        (λ after w. (S.entries after ≡ with_value (S.entries fields.old) number w)
+        × (S.noted after ≡ S.noted fields.old))
+        (λ after. (S.entries after ≡ S.entries fields.old) × (S.noted after ≡ S.noted fields.old))) }
     ensures value { option_copied_mut result ≡ stored_at (S.entries fields.old) number }
 {
     match fields.get_mut(number) {
@@ -217,8 +221,12 @@ pub(crate) fn value_mut_or<'a, V: Drop + 'a, S: NumberMap<FieldSlot<V>>>(
     default: V,
 ) -> Result<&'a mut V, AllocError>
     requires { AreNoted (known_of message_type.now) (S.noted fields.old) (S.entries fields.old) }
-    ensures* writes_back { sem 𝓛 (LendsValue S.row V.row fields.entry result S.entries S.noted (known_of message_type.now) (S.entries fields.old) number default) }
-    ensures value { IfOk result (λ v. stored_at (prepared (known_of message_type.now) (S.entries fields.old) number default) number ≡ Some v.now) }
+    ensures* writes_back { sem 𝓛
+        (LendsValue S.row V.row fields.entry result S.entries S.noted (known_of message_type.now) (S.entries fields.old)
+        number default) }
+    ensures value { IfOk result
+        (λ v. stored_at (prepared (known_of message_type.now) (S.entries fields.old) number default) number
+        ≡ Some v.now) }
     ensures ascending { IsAscending (S.entries fields.old) }
 {
     set_default(fields, alloc, message_type, number, default)?;
@@ -297,8 +305,11 @@ fn clear_listed<V: Drop, S: NumberMap<FieldSlot<V>>>(
     number: u32,
     members: usize,
 ) -> bool
-    ensures cleared { result ≡ true → S.entries fields.new ≡ without_values (is_other_member (known_of message_type.now) oneof number) (S.entries fields.old) }
-    ensures left { without_values (is_other_member (known_of message_type.now) oneof number) (S.entries fields.new) ≡ without_values (is_other_member (known_of message_type.now) oneof number) (S.entries fields.old) }
+    ensures cleared { result ≡ true
+        → S.entries fields.new
+        ≡ without_values (is_other_member (known_of message_type.now) oneof number) (S.entries fields.old) }
+    ensures left { without_values (is_other_member (known_of message_type.now) oneof number) (S.entries fields.new)
+        ≡ without_values (is_other_member (known_of message_type.now) oneof number) (S.entries fields.old) }
     ensures noted { S.noted fields.new ≡ S.noted fields.old }
     ensures ascending { IsAscending (S.entries fields.old) }
 {

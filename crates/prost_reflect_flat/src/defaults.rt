@@ -24,7 +24,9 @@ pub fn written_default(
     number: Option<i32>,
     text: &str,
 ) -> Result<Option<WrittenDefault>, AllocError>
-    ensures { IfOk result (λ d. (values : List EnumValueRow) → number_named values text.now ≡ number → option_map written_scalar d ≡ field_default kind values text.now) }
+    ensures { IfOk result
+        (λ d. (values : List EnumValueRow) → number_named values text.now ≡ number
+        → option_map written_scalar d ≡ field_default kind values text.now) }
 {
     let bytes = text.as_bytes();
     match kind {

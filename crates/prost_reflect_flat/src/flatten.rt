@@ -61,7 +61,10 @@ fn add_fields<'a>(
     number: u8,
     protos: &'a [FieldDescriptorProto],
 ) -> Result<(), AllocError>
-    ensures { OnOk result (map definition_row fields.new.items ≡ map definition_row fields.old.items ++ defined_from field_name (scope_row scope.now) number 0 protos.now) }
+    ensures { OnOk result
+        (map definition_row fields.new.items
+        ≡ map definition_row fields.old.items
+        ++ defined_from field_name (scope_row scope.now) number 0 protos.now) }
 {
     for (place, proto) in protos.iter().enumerate() {
         fields.push(defined(alloc, scope, number, place, &proto.name, proto)?)?;
@@ -140,7 +143,9 @@ fn add_enums<'a>(
     number: u8,
     protos: &'a [EnumDescriptorProto],
 ) -> Result<(), AllocError>
-    ensures { OnOk result (map enum_row enums.new.items ≡ map enum_row enums.old.items ++ enums_from (scope_row scope.now) number 0 protos.now) }
+    ensures { OnOk result
+        (map enum_row enums.new.items
+        ≡ map enum_row enums.old.items ++ enums_from (scope_row scope.now) number 0 protos.now) }
 {
     for (place, proto) in protos.iter().enumerate() {
         enums.push(flat_enum(alloc, scope, number, place, proto)?)?;
@@ -179,7 +184,9 @@ fn add_services<'a>(
     number: u8,
     protos: &'a [ServiceDescriptorProto],
 ) -> Result<(), AllocError>
-    ensures { OnOk result (map service_row services.new.items ≡ map service_row services.old.items ++ services_from (scope_row scope.now) number 0 protos.now) }
+    ensures { OnOk result
+        (map service_row services.new.items
+        ≡ map service_row services.old.items ++ services_from (scope_row scope.now) number 0 protos.now) }
 {
     for (place, proto) in protos.iter().enumerate() {
         services.push(flat_service(alloc, scope, number, place, proto)?)?;
@@ -225,7 +232,11 @@ fn add_message<'a>(
     place: usize,
     proto: &'a DescriptorProto,
 ) -> Result<(), AllocError>
-    ensures added { OnOk result (with_given (flat_rows flat.old) (message_at proto.now (scope_row scope.now) number place (flat.old.before + length flat.old.messages.items)) ≡ flat_rows flat.new) }
+    ensures added { OnOk result
+        (with_given (flat_rows flat.old)
+        (message_at proto.now (scope_row scope.now) number place
+        (flat.old.before + length flat.old.messages.items))
+        ≡ flat_rows flat.new) }
     ensures before { flat.new.before ≡ flat.old.before }
 {
     let before = flat.next_place()?;
@@ -274,7 +285,9 @@ fn add_file<'a>(
     file: usize,
     proto: &'a FileDescriptorProto,
 ) -> Result<(), AllocError>
-    ensures added { OnOk result (behind (flat_rows flat.old) (file_at proto.now file (flat.old.before + length flat.old.messages.items)) ≡ flat_rows flat.new) }
+    ensures added { OnOk result
+        (behind (flat_rows flat.old) (file_at proto.now file (flat.old.before + length flat.old.messages.items))
+        ≡ flat_rows flat.new) }
     ensures before { flat.new.before ≡ flat.old.before }
 {
     let scope = Scope {

@@ -40,7 +40,9 @@ pub fn gathered<T, F: Fn(&T) -> Option<usize>>(
     owner: &F,
 ) -> Result<Vec<Vec<usize>>, AllocError>
     requires { F.IsAlwaysCallable owner.now }
-    ensures { IfOk result (λ v. (o : T → Option ℕ) → Computes F.Fn owner.now o → map (λ l. l.items) v.items ≡ gathered_from o start items.now first count) }
+    ensures { IfOk result
+        (λ v. (o : T → Option ℕ) → Computes F.Fn owner.now o
+        → map (λ l. l.items) v.items ≡ gathered_from o start items.now first count) }
 {
     let mut lists = empty_lists(alloc, count)?;
     for (offset, item) in items.iter().enumerate() {

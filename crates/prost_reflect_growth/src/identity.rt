@@ -67,7 +67,9 @@ pub fn json_name(
     is_extension: bool,
     definition: &DefinitionRef<FieldDescriptorProto>,
 ) -> Result<Option<Box<String>>, AllocError>
-    ensures { IfOk result (λ text. json_name_of text (text_or_empty definition.now.proto.now.name) ≡ json_name is_extension (lent_row definition.now)) }
+    ensures { IfOk result
+        (λ text. json_name_of text (text_or_empty definition.now.proto.now.name)
+        ≡ json_name is_extension (lent_row definition.now)) }
 {
     if is_extension {
         return Ok(Some(Box::new(alloc, bracketed(alloc, definition.full_name)?)?));

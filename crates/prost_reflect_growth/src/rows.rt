@@ -123,7 +123,9 @@ fn moved_oneofs(
     oneofs: &[OneofTable],
 ) -> Result<Vec<OneofTable>, AllocError>
     requires { IsNonDecreasingBy (λ (f : FieldTable). f.number) more.now }
-    ensures { IfOk result (λ v. map oneof_row v.items ≡ map (moved_oneof (map field_row more.now) (map field_row fields.now)) (map oneof_row oneofs.now)) }
+    ensures { IfOk result
+        (λ v. map oneof_row v.items
+        ≡ map (moved_oneof (map field_row more.now) (map field_row fields.now)) (map oneof_row oneofs.now)) }
 {
     let mut moved = Vec::with_capacity(alloc, oneofs.len())?;
     for oneof in oneofs {
@@ -174,7 +176,9 @@ pub fn moved_extension(
     more: &[FieldTable],
 ) -> Result<ExtensionTable, AllocError>
     requires { IsNonDecreasingBy (λ (f : FieldTable). f.number) more.now }
-    ensures { IfOk result (λ x. extension_table_row x ≡ moved_extension (map field_row more.now) (map field_row fields.now) (extension_table_row extension.now)) }
+    ensures { IfOk result
+        (λ x. extension_table_row x
+        ≡ moved_extension (map field_row more.now) (map field_row fields.now) (extension_table_row extension.now)) }
 {
     Ok(ExtensionTable {
         message: extension.message,

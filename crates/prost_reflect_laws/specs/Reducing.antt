@@ -27,4 +27,7 @@ is_reduced older A newer B = holds (greatest_reduction older newer) A B
 
 -- The test answers yes exactly for a reduction.
 abbrev pub ReducedIsTest : Type 0
-ReducedIsTest = (older newer : Schema) (A B : ℕ) → schema_valid older ≡ true → schema_valid newer ≡ true → A < length older → B < length newer → Reduced older A newer B ↔ IsTrue (is_reduced older A newer B)
+ReducedIsTest = (older newer : Schema) (A B : ℕ) → schema_valid older ≡ true → schema_valid newer ≡ true
+    → A < length older
+    → B < length newer
+    → Reduced older A newer B ↔ IsTrue (is_reduced older A newer B)

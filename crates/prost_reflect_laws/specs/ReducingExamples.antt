@@ -6,7 +6,9 @@ use Rattle.prost_reflect_laws.specs.Examples.Schemas.{field, int32, text, messag
 
 -- message Outer { int32 a = 1; Inner b = 2; } message Inner { int32 a = 1; }
 abbrev pub whole : Schema
-whole = message (field 1 Singular (int32 false) ∷ field 2 Singular (message_value_type (MessageOf 1)) ∷ []) ∷ message (field 1 Singular (int32 false) ∷ []) ∷ []
+whole = message (field 1 Singular (int32 false) ∷ field 2 Singular (message_value_type (MessageOf 1)) ∷ [])
+    ∷ message (field 1 Singular (int32 false) ∷ [])
+    ∷ []
 
 -- Outer without a.
 abbrev pub less : Schema

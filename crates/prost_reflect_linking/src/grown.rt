@@ -44,7 +44,11 @@ fn grow(
     more: Vec<FieldTable>,
 ) -> Result<(), AllocError>
     requires { place < length (items_of messages.old) }
-    ensures { OnOk result ((m : MessageRow) → slice_get (map message_row (items_of messages.old)) place ≡ Some m → map message_row (items_of messages.new) ≡ slice_set (map message_row (items_of messages.old)) place (grown_message (map field_row more.items) m)) }
+    ensures { OnOk result
+        ((m : MessageRow) → slice_get (map message_row (items_of messages.old)) place ≡ Some m
+        → map message_row (items_of messages.new)
+        ≡ slice_set (map message_row (items_of messages.old)) place
+        (grown_message (map field_row more.items) m)) }
 {
     let mut more = more;
     sort_by_number(&mut more)?;

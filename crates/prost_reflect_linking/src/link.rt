@@ -132,7 +132,9 @@ fn declared_fields(
     definitions: &[Definition<FieldDescriptorProto>],
     meanings: &[Meaning],
 ) -> Result<Vec<FieldTable>, AllocError>
-    ensures { IfOk result (λ v. map field_row v.items ≡ map (field_meant false) (zip (map definition_row definitions.now) (map meaning_row meanings.now))) }
+    ensures { IfOk result
+        (λ v. map field_row v.items
+        ≡ map (field_meant false) (zip (map definition_row definitions.now) (map meaning_row meanings.now))) }
 {
     let mut fields = Vec::with_capacity(alloc, definitions.len())?;
     for (definition, meaning) in definitions.iter().zip(meanings) {
@@ -148,7 +150,10 @@ fn all_fields(
     meanings: &[Meaning],
     extensions: Vec<FieldTable>,
 ) -> Result<Vec<FieldTable>, AllocError>
-    ensures { IfOk result (λ v. map field_row v.items ≡ all_meant (map definition_row definitions.now) (map meaning_row meanings.now) (map field_row extensions.items)) }
+    ensures { IfOk result
+        (λ v. map field_row v.items
+        ≡ all_meant (map definition_row definitions.now) (map meaning_row meanings.now)
+        (map field_row extensions.items)) }
 {
     let mut fields = declared_fields(alloc, definitions, meanings)?;
     let mut extensions = extensions;
@@ -175,7 +180,11 @@ fn add_extensions(
     definitions: &[Definition<FieldDescriptorProto>],
     meanings: &[Meaning],
 ) -> Result<(), AllocError>
-    ensures { OnOk result (list_rows lists.new.items ≡ grouped (λ p. p.1.extendee) (field_meant true) (zip (map definition_row definitions.now) (map meaning_row meanings.now)) first (list_rows lists.old.items)) }
+    ensures { OnOk result
+        (list_rows lists.new.items
+        ≡ grouped (λ p. p.1.extendee) (field_meant true)
+        (zip (map definition_row definitions.now) (map meaning_row meanings.now)) first
+        (list_rows lists.old.items)) }
 {
     for (definition, meaning) in definitions.iter().zip(meanings) {
         if let Some(offset) = offset_of(meaning.extendee, first, lists.len()) {
@@ -193,7 +202,10 @@ fn extended(
     definitions: &[Definition<FieldDescriptorProto>],
     meanings: &[Meaning],
 ) -> Result<Vec<Vec<FieldTable>>, AllocError>
-    ensures { IfOk result (λ v. list_rows v.items ≡ grouped (λ p. p.1.extendee) (field_meant true) (zip (map definition_row definitions.now) (map meaning_row meanings.now)) first (empty_lists count)) }
+    ensures { IfOk result
+        (λ v. list_rows v.items
+        ≡ grouped (λ p. p.1.extendee) (field_meant true)
+        (zip (map definition_row definitions.now) (map meaning_row meanings.now)) first (empty_lists count)) }
 {
     let mut lists = empty_lists(alloc, count)?;
     add_extensions(alloc, first, &mut lists, definitions, meanings)?;
@@ -217,7 +229,10 @@ fn members_by_oneof(
     declared: &[Definition<FieldDescriptorProto>],
 ) -> Result<Vec<Vec<usize>>, AllocError>
     requires { IsNonDecreasingBy (λ (f : FieldTable). f.number) fields.now }
-    ensures { IfOk result (λ v. map (λ xs. xs.items) v.items ≡ grouped oneof_place (member_place (map field_row fields.now)) (map definition_row declared.now) 0 (empty_lists oneofs)) }
+    ensures { IfOk result
+        (λ v. map (λ xs. xs.items) v.items
+        ≡ grouped oneof_place (member_place (map field_row fields.now)) (map definition_row declared.now) 0
+        (empty_lists oneofs)) }
 {
     let mut lists = empty_lists(alloc, oneofs)?;
     for definition in declared {
@@ -249,7 +264,10 @@ fn linked_oneofs(
     oneofs: &[Definition<OneofDescriptorProto>],
 ) -> Result<Vec<OneofTable>, AllocError>
     requires { IsNonDecreasingBy (λ (f : FieldTable). f.number) fields.now }
-    ensures { IfOk result (λ v. map oneof_row v.items ≡ oneofs_from (map field_row fields.now) (map definition_row declared.now) 0 (map definition_row oneofs.now)) }
+    ensures { IfOk result
+        (λ v. map oneof_row v.items
+        ≡ oneofs_from (map field_row fields.now) (map definition_row declared.now) 0
+        (map definition_row oneofs.now)) }
 {
     let count = oneofs.len();
     let members = members_by_oneof(alloc, count, fields, declared)?;
@@ -302,7 +320,10 @@ fn linked_messages(
     requires extensions { length extensions.items ≡ length messages.items }
     requires meanings { length meanings.items ≡ length messages.items }
     requires entries { entries.now ≡ map is_entry (map flat_views.message_row messages.items) }
-    ensures { IfOk result (λ v. map message_row v.items ≡ messages_meant (list_rows extensions.items) (meaning_lists meanings.items) (map flat_views.message_row messages.entry.items)) }
+    ensures { IfOk result
+        (λ v. map message_row v.items
+        ≡ messages_meant (list_rows extensions.items) (meaning_lists meanings.items)
+        (map flat_views.message_row messages.entry.items)) }
 {
     let mut tables = Vec::with_capacity(alloc, messages.len())?;
     let items = messages.into_iter().zip(extensions).zip(meanings);
@@ -377,9 +398,12 @@ pub fn linked(
     entries: &[bool],
 ) -> Result<(SharedList<MessageTable>, SharedList<EnumTable>), AllocError>
     requires fields { AreMeaningsOf fields.items (links_of (all_rows base (flat_rows flat))) (flat_rows flat) }
-    requires extensions { map meaning_row extensions.now ≡ map meant (map (resolve (links_of (all_rows base (flat_rows flat)))) (flat_rows flat).extensions) }
+    requires extensions { map meaning_row extensions.now
+        ≡ map meant (map (resolve (links_of (all_rows base (flat_rows flat)))) (flat_rows flat).extensions) }
     requires entries { entries.now ≡ map is_entry (flat_rows flat).messages }
-    ensures rows { IfOk result (λ x. rows_from (items_of x.0) (items_of x.1) ≡ grown_rows (rows_below base.entry) (flat_rows flat.entry) (tables_below base.entry)) }
+    ensures rows { IfOk result
+        (λ x. rows_from (items_of x.0) (items_of x.1)
+        ≡ grown_rows (rows_below base.entry) (flat_rows flat.entry) (tables_below base.entry)) }
     ensures range { IfOk result (λ x. in_range (rows_from (items_of x.0) (items_of x.1)) ≡ true) }
 {
     let count = base.message_count();

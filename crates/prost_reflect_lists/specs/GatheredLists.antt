@@ -13,14 +13,23 @@ use Rattle.prost_reflect_tables.specs.Rows.{MessageRow}
 
 -- What stands in the added messages, and what extends them.
 pub record AreInner (inner : InnerPlaces) (old new : FlatRows) : Type 0 where
-  pub messages : list_items inner.messages ≡ gathered_from (λ m. m.definition.parent) (length old.messages) new.messages (length old.messages) (length new.messages)
-  pub enums : list_items inner.enums ≡ gathered_from (λ e. e.definition.parent) (length old.enums) new.enums (length old.messages) (length new.messages)
-  pub extensions : list_items inner.extensions ≡ gathered_from (λ d. d.parent) (length old.extensions) new.extensions (length old.messages) (length new.messages)
-  pub extending : list_items inner.extending ≡ gathered_from (extended_place (links_of (behind old new))) (length old.extensions) new.extensions (length old.messages) (length new.messages)
+  pub messages : list_items inner.messages
+      ≡ gathered_from (λ m. m.definition.parent) (length old.messages) new.messages (length old.messages)
+      (length new.messages)
+  pub enums : list_items inner.enums
+      ≡ gathered_from (λ e. e.definition.parent) (length old.enums) new.enums (length old.messages)
+      (length new.messages)
+  pub extensions : list_items inner.extensions
+      ≡ gathered_from (λ d. d.parent) (length old.extensions) new.extensions (length old.messages) (length new.messages)
+  pub extending : list_items inner.extending
+      ≡ gathered_from (extended_place (links_of (behind old new))) (length old.extensions) new.extensions
+      (length old.messages) (length new.messages)
 
 -- The added extensions of old messages, at the places of these; of those that have no list no added one is an extension.
 pub record AreFurther (lists : List (Vec ℕ Global)) (old new : FlatRows) : Type 0 where
-  pub places : map (λ l. l.items) lists ≡ gathered_from (extended_place (links_of (behind old new))) (length old.extensions) new.extensions 0 (length lists)
+  pub places : map (λ l. l.items) lists
+      ≡ gathered_from (extended_place (links_of (behind old new))) (length old.extensions) new.extensions 0
+      (length lists)
   pub few : length lists ≤ length old.messages
   pub rest : (T : ℕ) → length lists ≤ T → T < length old.messages → further_places old new T ≡ []
 

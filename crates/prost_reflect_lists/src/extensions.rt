@@ -82,7 +82,9 @@ fn linked_extension(tables: &Tables, extension: &Extended) -> ExtensionTable
 /// Where the row of the pool's extension at a place stands among the linked tables of pool and added files.
 fn moved_extension(base: Base<'_>, tables: &Tables, place: usize) -> ExtensionTable
     requires { place < length (catalog_below base).extensions }
-    ensures { option_map (found_again (tables_below base.entry) (rows_of tables.now)) (slice_get (catalog_below base.entry).extensions place) ≡ Some (extension_table_row result) }
+    ensures { option_map (found_again (tables_below base.entry) (rows_of tables.now))
+        (slice_get (catalog_below base.entry).extensions place)
+        ≡ Some (extension_table_row result) }
 {
     let pool = base.pool();
     let message = pool.extension_table(place).message;
@@ -101,7 +103,10 @@ fn move_extensions(
 ) -> Result<(), AllocError>
     requires places { All (λ i. i < length (catalog_below base).extensions) places.now }
     requires long { length extensions.old ≡ length (catalog_below base).extensions }
-    ensures { OnOk result (map extension_table_row extensions.new ≡ made_anew (again_at (tables_below base.entry) (rows_of tables.now) (catalog_below base.entry).extensions) places.now (map extension_table_row extensions.old)) }
+    ensures { OnOk result
+        (map extension_table_row extensions.new
+        ≡ made_anew (again_at (tables_below base.entry) (rows_of tables.now) (catalog_below base.entry).extensions)
+        places.now (map extension_table_row extensions.old)) }
 {
     for place in places {
         extensions.set(*place, moved_extension(base, tables, *place))?;
@@ -118,7 +123,10 @@ fn old_extensions(
     ghost new: { FlatRows }
     requires further { AreFurther further.now (rows_below base) new }
     requires tables { rows_of tables.now ≡ grown_rows (rows_below base) new (tables_below base) }
-    ensures { IfOk result (λ l. map extension_table_row l ≡ map (grown_extension (rows_below base.entry) new (tables_below base.entry)) (catalog_below base.entry).extensions) }
+    ensures { IfOk result
+        (λ l. map extension_table_row l
+        ≡ map (grown_extension (rows_below base.entry) new (tables_below base.entry))
+        (catalog_below base.entry).extensions) }
 {
     let pool = base.pool();
     let mut extensions = pool.catalog().extensions.clone()?;
@@ -145,7 +153,11 @@ pub fn linked_extensions(
     ghost new: { FlatRows }
     requires further { AreFurther further.now (rows_below base) new }
     requires tables { rows_of tables.now ≡ grown_rows (rows_below base) new (tables_below base) }
-    ensures { IfOk result (λ l. map extension_table_row l ≡ map (grown_extension (rows_below base.entry) new (tables_below base.entry)) (catalog_below base.entry).extensions ++ map (placed (rows_of tables.now)) (map extended_row added.now)) }
+    ensures { IfOk result
+        (λ l. map extension_table_row l
+        ≡ map (grown_extension (rows_below base.entry) new (tables_below base.entry))
+        (catalog_below base.entry).extensions
+        ++ map (placed (rows_of tables.now)) (map extended_row added.now)) }
 {
     let mut extensions = old_extensions(base, tables, further)?;
     for extension in added {

@@ -50,7 +50,11 @@ pub struct InnerPlaces {
 }
 
 fn inner_messages(alloc: Global, base: Base<'_>, flat: &Flat) -> Result<Vec<Vec<usize>>, AllocError>
-    ensures { IfOk result (λ v. map (λ l. l.items) v.items ≡ gathered_from (λ m. m.definition.parent) (length (rows_below base.entry).messages) (flat_rows flat.now).messages (length (rows_below base.entry).messages) (length (flat_rows flat.now).messages)) }
+    ensures { IfOk result
+        (λ v. map (λ l. l.items) v.items
+        ≡ gathered_from (λ m. m.definition.parent) (length (rows_below base.entry).messages)
+        (flat_rows flat.now).messages (length (rows_below base.entry).messages)
+        (length (flat_rows flat.now).messages)) }
 {
     let owner = |message: &FlatMessage| message.definition.parent;
     Ok(gathered(
@@ -64,7 +68,10 @@ fn inner_messages(alloc: Global, base: Base<'_>, flat: &Flat) -> Result<Vec<Vec<
 }
 
 fn inner_enums(alloc: Global, base: Base<'_>, flat: &Flat) -> Result<Vec<Vec<usize>>, AllocError>
-    ensures { IfOk result (λ v. map (λ l. l.items) v.items ≡ gathered_from (λ e. e.definition.parent) (length (rows_below base.entry).enums) (flat_rows flat.now).enums (length (rows_below base.entry).messages) (length (flat_rows flat.now).messages)) }
+    ensures { IfOk result
+        (λ v. map (λ l. l.items) v.items
+        ≡ gathered_from (λ e. e.definition.parent) (length (rows_below base.entry).enums) (flat_rows flat.now).enums
+        (length (rows_below base.entry).messages) (length (flat_rows flat.now).messages)) }
 {
     let owner = |declared: &FlatEnum| declared.definition.parent;
     Ok(gathered(
@@ -82,7 +89,10 @@ fn inner_extensions(
     base: Base<'_>,
     flat: &Flat,
 ) -> Result<Vec<Vec<usize>>, AllocError>
-    ensures { IfOk result (λ v. map (λ l. l.items) v.items ≡ gathered_from (λ d. d.parent) (length (rows_below base.entry).extensions) (flat_rows flat.now).extensions (length (rows_below base.entry).messages) (length (flat_rows flat.now).messages)) }
+    ensures { IfOk result
+        (λ v. map (λ l. l.items) v.items
+        ≡ gathered_from (λ d. d.parent) (length (rows_below base.entry).extensions) (flat_rows flat.now).extensions
+        (length (rows_below base.entry).messages) (length (flat_rows flat.now).messages)) }
 {
     let owner = |extension: &Definition<FieldDescriptorProto>| extension.parent;
     Ok(gathered(
@@ -104,8 +114,12 @@ fn extending(
     first: usize,
     count: usize,
 ) -> Result<Vec<Vec<usize>>, AllocError>
-    requires { map resolved_row extensions.now ≡ map (resolve (links_of (all_rows base (flat_rows flat.now)))) (flat_rows flat.now).extensions }
-    ensures { IfOk result (λ v. map (λ l. l.items) v.items ≡ gathered_from (extended_place (links_of (all_rows base.entry (flat_rows flat.now)))) (length (rows_below base.entry).extensions) (flat_rows flat.now).extensions first count) }
+    requires { map resolved_row extensions.now
+        ≡ map (resolve (links_of (all_rows base (flat_rows flat.now)))) (flat_rows flat.now).extensions }
+    ensures { IfOk result
+        (λ v. map (λ l. l.items) v.items
+        ≡ gathered_from (extended_place (links_of (all_rows base.entry (flat_rows flat.now))))
+        (length (rows_below base.entry).extensions) (flat_rows flat.now).extensions first count) }
 {
     let owner = |extension: &ResolvedField| extension.extendee;
     Ok(gathered(
@@ -129,7 +143,8 @@ pub fn inner_places(
     extensions: &[ResolvedField],
     flat: &Flat,
 ) -> Result<InnerPlaces, AllocError>
-    requires { map resolved_row extensions.now ≡ map (resolve (links_of (all_rows base (flat_rows flat.now)))) (flat_rows flat.now).extensions }
+    requires { map resolved_row extensions.now
+        ≡ map (resolve (links_of (all_rows base (flat_rows flat.now)))) (flat_rows flat.now).extensions }
     ensures { IfOk result (λ inner. AreInner inner (rows_below base.entry) (flat_rows flat.now)) }
 {
     let (first, count) = (base.message_count(), flat.messages.len());
@@ -164,7 +179,8 @@ pub fn further_places(
     extensions: &[ResolvedField],
     flat: &Flat,
 ) -> Result<Vec<Vec<usize>>, AllocError>
-    requires { map resolved_row extensions.now ≡ map (resolve (links_of (all_rows base (flat_rows flat.now)))) (flat_rows flat.now).extensions }
+    requires { map resolved_row extensions.now
+        ≡ map (resolve (links_of (all_rows base (flat_rows flat.now)))) (flat_rows flat.now).extensions }
     ensures { IfOk result (λ v. AreFurther v.items (rows_below base.entry) (flat_rows flat.now)) }
 {
     let count = base.message_count();
@@ -302,7 +318,10 @@ fn lists_of_old_messages(
     ghost new: { FlatRows }
     requires further { AreFurther further.now (rows_below base) new }
     requires tables { rows_of tables.now ≡ grown_rows (rows_below base) new (tables_below base) }
-    ensures { IfOk result (λ l. map message_lists_row l ≡ grown_lists_from (rows_below base.entry) new 0 (tables_below base.entry).messages (catalog_below base.entry).messages) }
+    ensures { IfOk result
+        (λ l. map message_lists_row l
+        ≡ grown_lists_from (rows_below base.entry) new 0 (tables_below base.entry).messages
+        (catalog_below base.entry).messages) }
 {
     let pool = base.pool();
     let mut lists = pool.catalog().messages.clone()?;
@@ -335,7 +354,12 @@ pub fn lists_of_messages(
     requires inner { AreInner inner.now (rows_below base) new }
     requires further { AreFurther further.now (rows_below base) new }
     requires tables { rows_of tables.now ≡ grown_rows (rows_below base) new (tables_below base) }
-    ensures { IfOk result (λ l. map message_lists_row l ≡ grown_lists_from (rows_below base.entry) new 0 (tables_below base.entry).messages (catalog_below base.entry).messages ++ each_from (added_lists (rows_below base.entry) new) (length (rows_below base.entry).messages) (added_messages (rows_below base.entry) new)) }
+    ensures { IfOk result
+        (λ l. map message_lists_row l
+        ≡ grown_lists_from (rows_below base.entry) new 0 (tables_below base.entry).messages
+        (catalog_below base.entry).messages
+        ++ each_from (added_lists (rows_below base.entry) new) (length (rows_below base.entry).messages)
+        (added_messages (rows_below base.entry) new)) }
 {
     let mut lists = lists_of_old_messages(alloc, base, further, tables)?;
     for place in base.message_count()..tables.messages.len() {
@@ -394,7 +418,9 @@ pub fn lists_of_enums(
     base: Base<'_>,
     enums: &[FlatEnum],
 ) -> Result<SharedList<EnumLists>, AllocError>
-    ensures { IfOk result (λ l. map enum_lists_row l ≡ (catalog_below base.entry).enums ++ map enum_lists (map flat_views.enum_row enums.now)) }
+    ensures { IfOk result
+        (λ l. map enum_lists_row l
+        ≡ (catalog_below base.entry).enums ++ map enum_lists (map flat_views.enum_row enums.now)) }
 {
     let mut lists = base.pool().catalog().enums.clone()?;
     for declared in enums {

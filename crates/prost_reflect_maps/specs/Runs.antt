@@ -19,7 +19,10 @@ IsAhead n (q ∷ qs) = nat_cmp n q.0 ≡ Less
 -- The numbers of each run ascend, from the one that stands with it on, and stay below that of the next run.
 abbrev pub InRuns : Marks → Type 0
 InRuns [] = ⊤
-InRuns (r ∷ rs) = IsStrictlySortedBy nat_cmp r.1 × AllByRecursion (λ k. is_le (nat_cmp r.0 k) ≡ true) r.1 × IsAhead r.0 rs × AllByRecursion (λ k. IsAhead k rs) r.1 × InRuns rs
+InRuns (r ∷ rs) = IsStrictlySortedBy nat_cmp r.1 × AllByRecursion (λ k. is_le (nat_cmp r.0 k) ≡ true) r.1
+    × IsAhead r.0 rs
+    × AllByRecursion (λ k. IsAhead k rs) r.1
+    × InRuns rs
 
 abbrev pub Runs : Type 0 → Type 0
 Runs T = List (ℕ × Vec (ℕ × T) Global)

@@ -164,7 +164,9 @@ pub(crate) fn parted_at<T>(items: &[(u32, T)], number: u32) -> (&[(u32, T)], &[(
 /// The item at the number, for writing.
 pub(crate) fn item_mut<T>(items: &mut Vec<(u32, T)>, number: u32) -> Option<&mut T>
     requires { IsAscending items.old.items }
-    ensures* writes_back { sem 𝓛 (LendsSo (list_row T.row) T.row items.entry result (λ after w. after.items ≡ with_item items.old.items number w) (λ after. after.items ≡ items.old.items)) }
+    ensures* writes_back { sem 𝓛
+        (LendsSo (list_row T.row) T.row items.entry result (λ after w. after.items ≡ with_item items.old.items number w)
+        (λ after. after.items ≡ items.old.items)) }
     ensures value { option_copied_mut result ≡ item_at items.old.items number }
 {
     match place_in(items, number) {

@@ -41,7 +41,10 @@ pub trait NumberMap<T> {
 
     /// The item at the number, for writing.
     fn get_mut(&mut self, number: u32) -> Option<&mut T>
-        ensures* writes_back { sem 𝓛 (LendsSo Self.row T.row self.entry result (λ after w. (entries after ≡ with_item (entries self.old) number w) × (noted after ≡ noted self.old)) (λ after. (entries after ≡ entries self.old) × (noted after ≡ noted self.old))) }
+        ensures* writes_back { sem 𝓛
+            (LendsSo Self.row T.row self.entry result
+            (λ after w. (entries after ≡ with_item (entries self.old) number w) × (noted after ≡ noted self.old))
+            (λ after. (entries after ≡ entries self.old) × (noted after ≡ noted self.old))) }
         ensures value { option_copied_mut result ≡ item_at (entries self.old) number };
 
     /// Puts the item at the number, in place of one that is there. If out of memory, nothing changes.

@@ -119,7 +119,9 @@ impl<T> RunMap<T> {
 
     /// The item at the number, for writing.
     pub(crate) fn get_mut(&mut self, number: u32) -> Option<&mut T>
-        ensures* writes_back { sem 𝓛 (LendsIf (the_row T.row) T.row self.entry result (λ w. (with_item self.old.0 number w, self.old.1)) self.old) }
+        ensures* writes_back { sem 𝓛
+            (LendsIf (the_row T.row) T.row self.entry result (λ w. (with_item self.old.0 number w, self.old.1))
+            self.old) }
         ensures value { option_copied_mut result ≡ item_at self.old.0 number }
     {
         match run_of(&self.runs, number) {

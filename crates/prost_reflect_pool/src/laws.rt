@@ -10,6 +10,7 @@ use crate::LinkedPool;
 /// Pools are equal by `==` exactly if both have as many files, and their contents are equal one by one; equal pools have equal
 /// tables.
 pub fn pool_equality()
-    ensures files { (a : LinkedPool) (b : LinkedPool) → IsTrue (⟦<LinkedPool as PartialEq>⟧.eq a b) ↔ SameContents (files_of a) (files_of b) }
+    ensures files { (a : LinkedPool) (b : LinkedPool)
+        → IsTrue (⟦<LinkedPool as PartialEq>⟧.eq a b) ↔ SameContents (files_of a) (files_of b) }
     ensures tables { (a : LinkedPool) (b : LinkedPool) → IsTrue (⟦<LinkedPool as PartialEq>⟧.eq a b) → pool_rows a ≡ pool_rows b }
 {}

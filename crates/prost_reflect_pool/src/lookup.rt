@@ -26,7 +26,9 @@ use std::cmp::Ordering;
 /// that compare as greater behind it.
 fn first_equal<T: Copy, C: Fn(&T) -> Ordering>(places: &[T], compare: &C) -> Option<T>
     requires { C.IsAlwaysCallable compare.now }
-    ensures { (order : T → Ordering) → Computes C.Fn compare.now order → IsNonDecreasingBy (λ p. ordering_index (order p)) places.now → result ≡ find (λ p. is_eq (order p)) places.now }
+    ensures { (order : T → Ordering) → Computes C.Fn compare.now order
+        → IsNonDecreasingBy (λ p. ordering_index (order p)) places.now
+        → result ≡ find (λ p. is_eq (order p)) places.now }
 {
     let mut low = 0;
     let mut high = places.len();
@@ -213,7 +215,9 @@ impl LinkedPool {
     pub fn value_place(&self, full_name: &str) -> Option<(usize, usize)>
         ensures found { result ≡ value_place (pool_rows self.now) full_name.now }
         ensures there { IfSome result (λ p. p.1 < length (values_at (pool_rows self.now) p.0)) }
-        ensures known { is_some result ≡ list_any (λ e. list_any (λ v. bytes_eq full_name.now v.id.full_name) e.values) (pool_rows self.now).enums }
+        ensures known { is_some result
+            ≡ list_any (λ e. list_any (λ v. bytes_eq full_name.now v.id.full_name) e.values)
+            (pool_rows self.now).enums }
     {
         let compare = |place: &(usize, usize)| self.value_name(*place).cmp(full_name);
         first_equal(self.catalog.by_name.values.as_slice(), &compare)

@@ -13,7 +13,8 @@ impl LinkedPool {
 
     /// The rows of the key and the value of a field's entries, or none where the field is no map.
     pub fn map_parts<'a>(&'a self, field: &FieldTable) -> Option<(&'a FieldTable, &'a FieldTable)>
-        ensures { option_map (λ parts. (field_row parts.0.now, field_row parts.1.now)) result ≡ map_parts (pool_rows self.now) (field_row field.now) }
+        ensures { option_map (λ parts. (field_row parts.0.now, field_row parts.1.now)) result
+            ≡ map_parts (pool_rows self.now) (field_row field.now) }
     {
         match field.cardinality {
             Cardinality::Repeated => match self.tables.entry_of(field) {

@@ -108,7 +108,8 @@ impl PooledType {
     /// The row of the field or extension of a number.
     pub fn field_table(&self, number: u32) -> Option<&FieldTable>
         ensures row { option_map (λ field. field_row field.now) result ≡ row_of (fields_of self.now) number }
-        ensures field { option_map (λ field. schema_field (pool_rows self.now.pool) (field_row field.now)) result ≡ field_of (known (schema_at self.now) (type_at self.now)) number }
+        ensures field { option_map (λ field. schema_field (pool_rows self.now.pool) (field_row field.now)) result
+            ≡ field_of (known (schema_at self.now) (type_at self.now)) number }
     {
         self.tables().field_table(self.index, number)
     }
@@ -122,7 +123,8 @@ impl PooledType {
 
     /// The rows of the key and the value of the entries of a field of the message type, or none where the field is no map.
     pub fn map_parts<'a>(&'a self, field: &FieldTable) -> Option<(&'a FieldTable, &'a FieldTable)>
-        ensures { option_map (λ parts. (field_row parts.0.now, field_row parts.1.now)) result ≡ map_parts (pool_rows self.now.pool) (field_row field.now) }
+        ensures { option_map (λ parts. (field_row parts.0.now, field_row parts.1.now)) result
+            ≡ map_parts (pool_rows self.now.pool) (field_row field.now) }
     {
         self.pool.map_parts(field)
     }

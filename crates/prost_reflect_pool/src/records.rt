@@ -236,7 +236,9 @@ impl LinkedPool {
     /// The record of the message type at a place.
     pub fn message_record(&self, index: usize) -> &DescriptorProto
         requires { index < length (pool_rows self.now).messages }
-        ensures { option_and_then (λ m. record_of (files_of self.now) m.id) (slice_get (pool_rows self.now).messages index) ≡ Some (MessageRecord result.now) }
+        ensures { option_and_then (λ m. record_of (files_of self.now) m.id)
+            (slice_get (pool_rows self.now).messages index)
+            ≡ Some (MessageRecord result.now) }
     {
         the_message(self.record_of(&self.message_table(index).id))
     }
@@ -245,7 +247,9 @@ impl LinkedPool {
     pub fn field_record(&self, message: usize, field: usize) -> &FieldDescriptorProto
         requires message { message < length (pool_rows self.now).messages }
         requires field { field < length (fields_at (pool_rows self.now) message) }
-        ensures { option_and_then (λ f. record_of (files_of self.now) f.id) (slice_get (fields_at (pool_rows self.now) message) field) ≡ Some (FieldRecord result.now) }
+        ensures { option_and_then (λ f. record_of (files_of self.now) f.id)
+            (slice_get (fields_at (pool_rows self.now) message) field)
+            ≡ Some (FieldRecord result.now) }
     {
         the_field(self.record_of(&field_at(self, message, field).id))
     }
@@ -254,7 +258,9 @@ impl LinkedPool {
     pub fn oneof_record(&self, message: usize, oneof: usize) -> &OneofDescriptorProto
         requires message { message < length (pool_rows self.now).messages }
         requires oneof { oneof < length (oneofs_at (pool_rows self.now) message) }
-        ensures { option_and_then (λ o. record_of (files_of self.now) o.id) (slice_get (oneofs_at (pool_rows self.now) message) oneof) ≡ Some (OneofRecord result.now) }
+        ensures { option_and_then (λ o. record_of (files_of self.now) o.id)
+            (slice_get (oneofs_at (pool_rows self.now) message) oneof)
+            ≡ Some (OneofRecord result.now) }
     {
         the_oneof(self.record_of(&self.oneof_table(message, oneof).id))
     }
@@ -262,7 +268,8 @@ impl LinkedPool {
     /// The record of the enum at a place.
     pub fn enum_record(&self, index: usize) -> &EnumDescriptorProto
         requires { index < length (pool_rows self.now).enums }
-        ensures { option_and_then (λ e. record_of (files_of self.now) e.id) (slice_get (pool_rows self.now).enums index) ≡ Some (EnumRecord result.now) }
+        ensures { option_and_then (λ e. record_of (files_of self.now) e.id) (slice_get (pool_rows self.now).enums index)
+            ≡ Some (EnumRecord result.now) }
     {
         the_enum(self.record_of(&self.enum_table(index).id))
     }
@@ -271,7 +278,9 @@ impl LinkedPool {
     pub fn value_record(&self, e: usize, value: usize) -> &EnumValueDescriptorProto
         requires e { e < length (pool_rows self.now).enums }
         requires value { value < length (values_at (pool_rows self.now) e) }
-        ensures { option_and_then (λ v. record_of (files_of self.now) v.id) (slice_get (values_at (pool_rows self.now) e) value) ≡ Some (ValueRecord result.now) }
+        ensures { option_and_then (λ v. record_of (files_of self.now) v.id)
+            (slice_get (values_at (pool_rows self.now) e) value)
+            ≡ Some (ValueRecord result.now) }
     {
         the_value(self.record_of(&value_at(self, e, value).id))
     }
@@ -279,7 +288,9 @@ impl LinkedPool {
     /// The record of the service at a place.
     pub fn service_record(&self, index: usize) -> &ServiceDescriptorProto
         requires { index < length (pool_catalog self.now).services }
-        ensures { option_and_then (λ s. record_of (files_of self.now) s.id) (slice_get (pool_catalog self.now).services index) ≡ Some (ServiceRecord result.now) }
+        ensures { option_and_then (λ s. record_of (files_of self.now) s.id)
+            (slice_get (pool_catalog self.now).services index)
+            ≡ Some (ServiceRecord result.now) }
     {
         the_service(self.record_of(&service_at(self, index).id))
     }
@@ -288,7 +299,9 @@ impl LinkedPool {
     pub fn method_record(&self, service: usize, method: usize) -> &MethodDescriptorProto
         requires service { service < length (pool_catalog self.now).services }
         requires method { method < length (methods_at (pool_catalog self.now) service) }
-        ensures { option_and_then (λ m. record_of (files_of self.now) m.id) (slice_get (methods_at (pool_catalog self.now) service) method) ≡ Some (MethodRecord result.now) }
+        ensures { option_and_then (λ m. record_of (files_of self.now) m.id)
+            (slice_get (methods_at (pool_catalog self.now) service) method)
+            ≡ Some (MethodRecord result.now) }
     {
         the_method(self.record_of(&method_at(self, service, method).id))
     }

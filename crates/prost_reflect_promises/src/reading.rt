@@ -24,9 +24,15 @@ pub fn read(
     message_type: MessageDescriptor,
     bytes: &[u8],
 ) -> Result<DynamicMessage, DecodeError>
-    ensures means { IfOk result (λ message. decoded (schema_named message_type) LEVEL_LIMIT (type_named message_type) bytes.now ≡ Some (kept (content_of message))) }
-    ensures fault { IfErr result (λ e. e ≢ DecodeError.OutOfMemory → StandsInMessage (schema_named message_type) (type_named message_type) LEVEL_LIMIT e bytes.now) }
-    ensures accepted { IfErr result (λ e. Accepts (schema_named message_type) LEVEL_LIMIT (type_named message_type) bytes.now → e ≡ DecodeError.OutOfMemory) }
+    ensures means { IfOk result
+        (λ message. decoded (schema_named message_type) LEVEL_LIMIT (type_named message_type) bytes.now
+        ≡ Some (kept (content_of message))) }
+    ensures fault { IfErr result
+        (λ e. e ≢ DecodeError.OutOfMemory
+        → StandsInMessage (schema_named message_type) (type_named message_type) LEVEL_LIMIT e bytes.now) }
+    ensures accepted { IfErr result
+        (λ e. Accepts (schema_named message_type) LEVEL_LIMIT (type_named message_type) bytes.now
+        → e ≡ DecodeError.OutOfMemory) }
 {
     DynamicMessage::decode(alloc, message_type, bytes)
 }
@@ -42,8 +48,13 @@ pub fn read_in_pieces(
     first: &[u8],
     second: &[u8],
 ) -> Result<DynamicMessage, DecodeError>
-    ensures means { IfOk result (λ message. IsMeaningOfBytes (schema_named message_type) (type_named message_type) (first.now ++ second.now) (kept (content_of message))) }
-    ensures accepted { IfErr result (λ e. Accepts (schema_named message_type) LEVEL_LIMIT (type_named message_type) first.now → Accepts (schema_named message_type) LEVEL_LIMIT (type_named message_type) second.now → e ≡ DecodeError.OutOfMemory) }
+    ensures means { IfOk result
+        (λ message. IsMeaningOfBytes (schema_named message_type) (type_named message_type) (first.now ++ second.now)
+        (kept (content_of message))) }
+    ensures accepted { IfErr result
+        (λ e. Accepts (schema_named message_type) LEVEL_LIMIT (type_named message_type) first.now
+        → Accepts (schema_named message_type) LEVEL_LIMIT (type_named message_type) second.now
+        → e ≡ DecodeError.OutOfMemory) }
 {
     let mut message = DynamicMessage::decode(alloc, message_type, first)?;
     message.merge(second)?;
@@ -57,8 +68,13 @@ pub fn read_in_pieces(
 /// A fault that keeps the message's type from accepting the bytes, or `OutOfMemory` if memory runs out; the message stays.
 pub fn merge(message: &mut DynamicMessage, bytes: &[u8]) -> Result<(), DecodeError>
     requires { WellStored (content_of message.old) }
-    ensures merged { IfOk result (λ _. MergesMeaning (schema_at (message_type_of message.old)) (type_at (message_type_of message.old)) bytes.now (kept (content_of message.old)) (kept (content_of message.new))) }
-    ensures fault { IfErr result (λ e. e ≢ DecodeError.OutOfMemory → StandsInMessage (schema_at (message_type_of message.old)) (type_at (message_type_of message.old)) LEVEL_LIMIT e bytes.now) }
+    ensures merged { IfOk result
+        (λ _. MergesMeaning (schema_at (message_type_of message.old)) (type_at (message_type_of message.old)) bytes.now
+        (kept (content_of message.old)) (kept (content_of message.new))) }
+    ensures fault { IfErr result
+        (λ e. e ≢ DecodeError.OutOfMemory
+        → StandsInMessage (schema_at (message_type_of message.old)) (type_at (message_type_of message.old))
+        LEVEL_LIMIT e bytes.now) }
     ensures unchanged { IfErr result (λ _. message.new ≡ message.old) }
 {
     message.merge(bytes)

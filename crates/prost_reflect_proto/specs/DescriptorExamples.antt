@@ -31,7 +31,8 @@ records contents = list (map MessageValue contents)
 
 -- The bytes mean a record of these fields, which is written as the others.
 abbrev pub Reads : RecordType → String → List (ℕ × Option Value) → String → Type 0
-Reads t bytes slots again = (record_decoded LEVEL_LIMIT t (hex bytes) ≡ Some (record_content t slots)) × (encoded (record_content t slots) ≡ hex again)
+Reads t bytes slots again = (record_decoded LEVEL_LIMIT t (hex bytes) ≡ Some (record_content t slots))
+    × (encoded (record_content t slots) ≡ hex again)
 
 abbrev pub Refused : RecordType → String → Type 0
 Refused t bytes = record_decoded LEVEL_LIMIT t (hex bytes) ≡ None

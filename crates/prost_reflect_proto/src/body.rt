@@ -38,7 +38,9 @@ fn records<P: OwnedProto>(
     levels: u32,
 ) -> Result<Vec<P>, DecodeError>
     ensures ok { IfOk result (λ found. records_at levels P.record_type number (all_found fields.now) ≡ Some (map P.content found.items)) }
-    ensures fault { IfErr result (λ e. e ≢ DecodeError.OutOfMemory → StandsAmong levels P.record_type e (at_number record_in number (all_found fields.now))) }
+    ensures fault { IfErr result
+        (λ e. e ≢ DecodeError.OutOfMemory
+        → StandsAmong levels P.record_type e (at_number record_in number (all_found fields.now))) }
 {
     let bodies = bodies(alloc, fields, number)?;
     let bodies = bodies.as_slice();
@@ -199,7 +201,9 @@ impl OwnedProto for ServiceDescriptorProto {
 #[cycle(reading)]
 fn message(alloc: Global, body: &[u8], levels: u32) -> Result<DescriptorProto, DecodeError>
     ensures ok { IfOk result (λ own. record_decoded levels types.Message body.now ≡ Some (of_message own)) }
-    ensures fault { IfErr result (λ e. e ≢ DecodeError.OutOfMemory → StandsInMessage record_schema (type_place types.Message) levels e body.now) }
+    ensures fault { IfErr result
+        (λ e. e ≢ DecodeError.OutOfMemory
+        → StandsInMessage record_schema (type_place types.Message) levels e body.now) }
 {
     let fields = fields_in(alloc, RecordType::Message, body, levels)?;
     let fields = fields.as_slice();
@@ -215,8 +219,12 @@ fn message_of(
     levels: u32,
 ) -> Result<DescriptorProto, DecodeError>
     requires { records_at levels types.Message 3 (all_found fields.now) ≡ Some (map of_message nested_type.items) }
-    ensures ok { IfOk result (λ own. (body : List ℕ) → Fields levels types.Message (all_found fields.now) body [] → record_decoded levels types.Message body ≡ Some (of_message own)) }
-    ensures fault { IfErr result (λ e. e ≢ DecodeError.OutOfMemory → (body : List ℕ) → Fields levels types.Message (all_found fields.now) body [] → StandsInMessage record_schema (type_place types.Message) levels e body) }
+    ensures ok { IfOk result
+        (λ own. (body : List ℕ) → Fields levels types.Message (all_found fields.now) body []
+        → record_decoded levels types.Message body ≡ Some (of_message own)) }
+    ensures fault { IfErr result
+        (λ e. e ≢ DecodeError.OutOfMemory → (body : List ℕ) → Fields levels types.Message (all_found fields.now) body []
+        → StandsInMessage record_schema (type_place types.Message) levels e body) }
 {
     Ok(DescriptorProto {
         name: text(alloc, fields, 1)?,
@@ -253,7 +261,9 @@ fn messages(
     levels: u32,
 ) -> Result<Vec<DescriptorProto>, DecodeError>
     ensures ok { IfOk result (λ found. records_at levels types.Message number (all_found fields.now) ≡ Some (map of_message found.items)) }
-    ensures fault { IfErr result (λ e. e ≢ DecodeError.OutOfMemory → StandsAmong levels types.Message e (at_number record_in number (all_found fields.now))) }
+    ensures fault { IfErr result
+        (λ e. e ≢ DecodeError.OutOfMemory
+        → StandsAmong levels types.Message e (at_number record_in number (all_found fields.now))) }
 {
     let bodies = bodies(alloc, fields, number)?;
     let bodies = bodies.as_slice();

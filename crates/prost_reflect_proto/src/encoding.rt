@@ -15,7 +15,9 @@ pub fn append<P: WriteProto>(value: &P, out: &mut Vec<u8>) -> Result<(), EncodeE
     ensures ok { OnOk result (out.new.items ≡ out.old.items ++ encoded (P.content value.now)) }
     ensures err { OnErr result (out.new.items ≡ out.old.items) }
     ensures too_long { IfErr result (λ e. e ≡ EncodeError.TooLong → 2 ^ 64 ≤ length (encoded (P.content value.now))) }
-    ensures reads { OnOk result (levels (P.content value.now) ≤ LEVEL_LIMIT → record_decoded LEVEL_LIMIT P.record_type (encoded (P.content value.now)) ≡ Some (P.content value.now)) }
+    ensures reads { OnOk result
+        (levels (P.content value.now) ≤ LEVEL_LIMIT
+        → record_decoded LEVEL_LIMIT P.record_type (encoded (P.content value.now)) ≡ Some (P.content value.now)) }
 {
     let mut sink = ByteSink::new(*out.allocator());
     value.write(&mut sink);

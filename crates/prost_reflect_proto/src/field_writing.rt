@@ -101,7 +101,8 @@ pub fn write_numbers<S: Sink>(sink: &mut S, number: u32, values: &Vec<i32>)
 
 /// Writes each nested record under the number, the last one first.
 pub fn write_records<S: Sink, P: WriteProto>(sink: &mut S, number: u32, records: &Vec<P>)
-    ensures added { Adds S.added sink.old sink.new (field_bytes number (kinds.Records P.record_type) (of_records (map P.content records.now.items))) }
+    ensures added { Adds S.added sink.old sink.new
+        (field_bytes number (kinds.Records P.record_type) (of_records (map P.content records.now.items))) }
     ensures sound { FieldSound (kinds.Records P.record_type) (of_records (map P.content records.now.items)) }
 {
     for index in (0..records.len()).rev() {

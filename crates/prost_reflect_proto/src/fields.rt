@@ -56,7 +56,8 @@ pub fn fields_in<'a>(
     levels: u32,
 ) -> Result<Vec<RawField<'a>>, DecodeError>
     ensures ok { IfOk result (λ fields. Fields levels record_type (all_found fields.items) body.now []) }
-    ensures fault { IfErr result (λ e. e ≢ DecodeError.OutOfMemory → StandsInMessage record_schema (type_place record_type) levels e body.now) }
+    ensures fault { IfErr result
+        (λ e. e ≢ DecodeError.OutOfMemory → StandsInMessage record_schema (type_place record_type) levels e body.now) }
 {
     let rows = record_type.rows();
     let mut fields = Vec::with_capacity(alloc, MOST_RECORDS)?;
@@ -91,7 +92,9 @@ fn push_values<'a>(
     wire_type: WireType,
     bytes: &'a [u8],
 ) -> Result<&'a [u8], DecodeError>
-    ensures ok { IfOk result (λ rest. FieldRead kind number wire_type (all_found fields.old.items) (all_found fields.new.items) bytes.now rest.now) }
+    ensures ok { IfOk result
+        (λ rest. FieldRead kind number wire_type (all_found fields.old.items) (all_found fields.new.items) bytes.now
+        rest.now) }
     ensures fault { IfErr result (λ e. e ≢ DecodeError.OutOfMemory → FieldFault e (field_of_row (number, kind)) wire_type bytes.now) }
 {
     match wire_type {

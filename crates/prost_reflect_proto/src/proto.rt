@@ -33,7 +33,9 @@ pub trait OwnedProto: WriteProto + OwnedRecord + Sized {
     /// Reads the proto from the bytes of its body, with so many levels left below it.
     fn from_body(alloc: Global, body: &[u8], levels: u32) -> Result<Self, DecodeError>
         ensures ok { IfOk result (λ own. record_decoded levels Self.record_type body.now ≡ Some (Self.content own)) }
-        ensures fault { IfErr result (λ e. e ≢ DecodeError.OutOfMemory → StandsInMessage record_schema (type_place Self.record_type) levels e body.now) };
+        ensures fault { IfErr result
+            (λ e. e ≢ DecodeError.OutOfMemory
+            → StandsInMessage record_schema (type_place Self.record_type) levels e body.now) };
 }
 
 /// A struct of a descriptor set: it is read from bytes, written to them and measured, as a `prost::Message` is.
@@ -71,8 +73,12 @@ pub trait Proto: OwnedProto {
     final fn decode(alloc: Global, bytes: &[u8]) -> Result<Self, DecodeError>
         ensures means { IfOk result (λ own. record_decoded LEVEL_LIMIT Self.record_type bytes.now ≡ Some (Self.content own)) }
         ensures accepts { IfOk result (λ _. Accepts record_schema LEVEL_LIMIT (type_place Self.record_type) bytes.now) }
-        ensures fault { IfErr result (λ e. e ≢ DecodeError.OutOfMemory → StandsInMessage record_schema (type_place Self.record_type) LEVEL_LIMIT e bytes.now) }
-        ensures accepted { IfErr result (λ e. Accepts record_schema LEVEL_LIMIT (type_place Self.record_type) bytes.now → e ≡ DecodeError.OutOfMemory) }
+        ensures fault { IfErr result
+            (λ e. e ≢ DecodeError.OutOfMemory
+            → StandsInMessage record_schema (type_place Self.record_type) LEVEL_LIMIT e bytes.now) }
+        ensures accepted { IfErr result
+            (λ e. Accepts record_schema LEVEL_LIMIT (type_place Self.record_type) bytes.now
+            → e ≡ DecodeError.OutOfMemory) }
     {
         Self::from_body(alloc, bytes, RECURSION_LIMIT)
     }
@@ -89,7 +95,10 @@ pub trait Proto: OwnedProto {
         ensures ok { OnOk result (out.new.items ≡ out.old.items ++ encoded (Self.content self.now)) }
         ensures err { OnErr result (out.new.items ≡ out.old.items) }
         ensures too_long { IfErr result (λ e. e ≡ EncodeError.TooLong → 2 ^ 64 ≤ length (encoded (Self.content self.now))) }
-        ensures reads { OnOk result (levels (Self.content self.now) ≤ LEVEL_LIMIT → record_decoded LEVEL_LIMIT Self.record_type (encoded (Self.content self.now)) ≡ Some (Self.content self.now)) }
+        ensures reads { OnOk result
+            (levels (Self.content self.now) ≤ LEVEL_LIMIT
+            → record_decoded LEVEL_LIMIT Self.record_type (encoded (Self.content self.now))
+            ≡ Some (Self.content self.now)) }
     {
         append(self, out)
     }

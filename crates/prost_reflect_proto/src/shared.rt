@@ -38,7 +38,8 @@ impl<'a> WriteProto for SharedFiles<'a> {
 }
 
 fn write_files<S: Sink>(sink: &mut S, number: u32, files: &[Rc<FileDescriptorProto>])
-    ensures added { Adds S.added sink.old sink.new (field_bytes number (kinds.Records types.File) (of_records (map of_file (shared_files files.now)))) }
+    ensures added { Adds S.added sink.old sink.new
+        (field_bytes number (kinds.Records types.File) (of_records (map of_file (shared_files files.now)))) }
     ensures sound { FieldSound (kinds.Records types.File) (of_records (map of_file (shared_files files.now))) }
 {
     for index in (0..files.len()).rev() {
@@ -56,7 +57,10 @@ pub fn encode_files(files: &[Rc<FileDescriptorProto>], out: &mut Vec<u8>) -> Res
     ensures ok { OnOk result (out.new.items ≡ out.old.items ++ encoded (of_files (shared_files files.now))) }
     ensures err { OnErr result (out.new.items ≡ out.old.items) }
     ensures too_long { IfErr result (λ e. e ≡ EncodeError.TooLong → 2 ^ 64 ≤ length (encoded (of_files (shared_files files.now)))) }
-    ensures reads { OnOk result (levels (of_files (shared_files files.now)) ≤ LEVEL_LIMIT → record_decoded LEVEL_LIMIT types.FileSet (encoded (of_files (shared_files files.now))) ≡ Some (of_files (shared_files files.now))) }
+    ensures reads { OnOk result
+        (levels (of_files (shared_files files.now)) ≤ LEVEL_LIMIT
+        → record_decoded LEVEL_LIMIT types.FileSet (encoded (of_files (shared_files files.now)))
+        ≡ Some (of_files (shared_files files.now))) }
 {
     append(&SharedFiles { files }, out)
 }

@@ -147,7 +147,8 @@ fn write_message<S: Sink>(sink: &mut S, message: &DescriptorProto)
 
 #[cycle(message_writing)]
 fn write_messages<S: Sink>(sink: &mut S, number: u32, messages: &Vec<DescriptorProto>)
-    ensures added { Adds S.added sink.old sink.new (field_bytes number (kinds.Records types.Message) (of_records (map of_message messages.now.items))) }
+    ensures added { Adds S.added sink.old sink.new
+        (field_bytes number (kinds.Records types.Message) (of_records (map of_message messages.now.items))) }
     ensures sound { FieldSound (kinds.Records types.Message) (of_records (map of_message messages.now.items)) }
 {
     for index in (0..messages.len()).rev() {

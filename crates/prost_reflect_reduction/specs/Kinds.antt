@@ -24,4 +24,6 @@ HasNumbers set numbers = (z : ℤ) → contains int_cmp set z ≡ list_any (int_
 
 -- Of each pair in the set, the enums at these places of the older and the newer rows are the same.
 unfoldable pub AreSameEnums : BTreeSet (ℕ × ℕ) → List EnumRow → List EnumRow → Type 0
-AreSameEnums set older newer = (q : ℕ × ℕ) → contains (λ x y. ordering_then (nat_cmp x.0 y.0) (nat_cmp x.1 y.1)) set q ≡ true → same_scalar_kind (enum_kind (slice_get older q.0)) (enum_kind (slice_get newer q.1)) ≡ true
+AreSameEnums set older newer = (q : ℕ × ℕ)
+    → contains (λ x y. ordering_then (nat_cmp x.0 y.0) (nat_cmp x.1 y.1)) set q ≡ true
+    → same_scalar_kind (enum_kind (slice_get older q.0)) (enum_kind (slice_get newer q.1)) ≡ true

@@ -18,7 +18,8 @@ kinds_ask (GroupOf A) (GroupOf B) = (A, B) ∷ []
 kinds_ask k l = []
 
 abbrev pub values_alike : ValueType → ValueType → Bool
-values_alike s t = kinds_alike s.kind t.kind && beq s.required t.required && beq s.presence t.presence && same_default s.kind s.default t.default
+values_alike s t = kinds_alike s.kind t.kind && beq s.required t.required && beq s.presence t.presence
+    && same_default s.kind s.default t.default
 
 -- A map's key is no message.
 abbrev pub forms_alike : FieldForm → FieldForm → Bool
@@ -42,7 +43,8 @@ field_asks newer f = asked_beside f (field_of newer f.number)
 
 -- What is asked of one pair of types by itself.
 abbrev pub types_alike : MessageType → MessageType → Bool
-types_alike older newer = entries_whole older newer && list_all (has_alike older.known newer.known) older.known && list_all (has_no_fellow older.known newer.known) newer.known
+types_alike older newer = entries_whole older newer && list_all (has_alike older.known newer.known) older.known
+    && list_all (has_no_fellow older.known newer.known) newer.known
 
 -- The pairs that fields of the same numbers lead to.
 abbrev pub types_ask : MessageType → MessageType → TypePairs

@@ -37,7 +37,8 @@ IsPairAt pairs place A B = (place < length pairs) × (get_or pairs place (0, 0) 
 
 -- If pairs are listed, the source is one of them, and what its fields lead to is asked for.
 abbrev pub LeadsOn : Schema → Schema → TypePairs → Source → TypePairs → Type 0
-LeadsOn older newer pairs source asked = 0 < length pairs → (source.pair < length pairs) × (pair_by older newer (get_or pairs source.pair (0, 0)) source.number ≡ asked)
+LeadsOn older newer pairs source asked = 0 < length pairs
+    → (source.pair < length pairs) × (pair_by older newer (get_or pairs source.pair (0, 0)) source.number ≡ asked)
 
 abbrev pub source_at : List Source → ℕ → Source
 source_at sources i = get_or sources i (record { pair = 0; number = 0 })
@@ -46,7 +47,9 @@ source_at sources i = get_or sources i (record { pair = 0; number = 0 })
 pub record AreSources (older newer : Schema) (pairs : TypePairs) (sources : List Source) : Type 0 where
   pub same : length sources ≡ length pairs
   pub before : (i : ℕ) → 0 < i → i < length pairs → (source_at sources i).pair < i
-  pub leads : (i : ℕ) → 0 < i → i < length pairs → pair_by older newer (get_or pairs (source_at sources i).pair (0, 0)) (source_at sources i).number ≡ get_or pairs i (0, 0) ∷ []
+  pub leads : (i : ℕ) → 0 < i → i < length pairs
+      → pair_by older newer (get_or pairs (source_at sources i).pair (0, 0)) (source_at sources i).number
+      ≡ get_or pairs i (0, 0) ∷ []
 
 unfoldable pub AreBefore : List Source → Type 0
 AreBefore sources = (i : ℕ) → 0 < i → i < length sources → (source_at sources i).pair < i

@@ -17,7 +17,8 @@ use std::collections::BTreeSet;
 
 /// The field whose values are those of a field; of a map, that of the values in it.
 pub(crate) fn value_field<'a>(tables: &'a Tables, field: &'a FieldTable) -> &'a FieldTable
-    ensures { own_type (rows_of tables.now).enums (field_row result.now) ≡ (schema_field (rows_of tables.now) (field_row field.now)).value_type }
+    ensures { own_type (rows_of tables.now).enums (field_row result.now)
+        ≡ (schema_field (rows_of tables.now) (field_row field.now)).value_type }
 {
     match field.cardinality {
         Cardinality::Repeated => match tables.entry_of(field) {
@@ -39,7 +40,13 @@ fn lists_alike(
 ) -> Result<bool, AllocError>
     requires enums { AreSameEnums same_enums.old (rows_of older.now).enums (rows_of newer.now).enums }
     ensures enums { OnOk result (AreSameEnums same_enums.new (rows_of older.now).enums (rows_of newer.now).enums) }
-    ensures alike { IfOk result (λ alike. alike ≡ forms_alike (form_of (rows_of older.now).enums (field_row field.now) RepeatedLabel (map_entry (rows_of older.now).messages (field_row field.now) RepeatedLabel)) (form_of (rows_of newer.now).enums (field_row like.now) RepeatedLabel (map_entry (rows_of newer.now).messages (field_row like.now) RepeatedLabel))) }
+    ensures alike { IfOk result
+        (λ alike. alike
+        ≡ forms_alike
+        (form_of (rows_of older.now).enums (field_row field.now) RepeatedLabel
+        (map_entry (rows_of older.now).messages (field_row field.now) RepeatedLabel))
+        (form_of (rows_of newer.now).enums (field_row like.now) RepeatedLabel
+        (map_entry (rows_of newer.now).messages (field_row like.now) RepeatedLabel))) }
 {
     match older.entry_of(field) {
         Some(entry) => match newer.entry_of(like) {
@@ -71,7 +78,10 @@ fn forms_alike(
 ) -> Result<bool, AllocError>
     requires enums { AreSameEnums same_enums.old (rows_of older.now).enums (rows_of newer.now).enums }
     ensures enums { OnOk result (AreSameEnums same_enums.new (rows_of older.now).enums (rows_of newer.now).enums) }
-    ensures alike { IfOk result (λ alike. alike ≡ forms_alike (schema_field (rows_of older.now) (field_row field.now)).form (schema_field (rows_of newer.now) (field_row like.now)).form) }
+    ensures alike { IfOk result
+        (λ alike. alike
+        ≡ forms_alike (schema_field (rows_of older.now) (field_row field.now)).form
+        (schema_field (rows_of newer.now) (field_row like.now)).form) }
 {
     match field.cardinality {
         Cardinality::Repeated => match like.cardinality {
@@ -99,7 +109,9 @@ fn form_fault(
     newer: &Tables,
     like: &FieldTable,
 ) -> ReductionFaultKind
-    ensures { result ≡ forms_fault (schema_field (rows_of older.now) (field_row field.now)).form (schema_field (rows_of newer.now) (field_row like.now)).form }
+    ensures { result
+        ≡ forms_fault (schema_field (rows_of older.now) (field_row field.now)).form
+        (schema_field (rows_of newer.now) (field_row like.now)).form }
 {
     if field.cardinality.is_repeated() == like.cardinality.is_repeated() {
         ReductionFaultKind::Map
@@ -119,7 +131,10 @@ pub(crate) fn field_fault(
 ) -> Result<Option<ReductionFaultKind>, AllocError>
     requires enums { AreSameEnums same_enums.old (rows_of older.now).enums (rows_of newer.now).enums }
     ensures enums { OnOk result (AreSameEnums same_enums.new (rows_of older.now).enums (rows_of newer.now).enums) }
-    ensures fault { IfOk result (λ fault. fault ≡ fields_fault (schema_field (rows_of older.now) (field_row field.now)) (schema_field (rows_of newer.now) (field_row like.now))) }
+    ensures fault { IfOk result
+        (λ fault. fault
+        ≡ fields_fault (schema_field (rows_of older.now) (field_row field.now))
+        (schema_field (rows_of newer.now) (field_row like.now))) }
 {
     if field.is_extension != like.is_extension {
         return Ok(Some(ReductionFaultKind::Extension));

@@ -46,7 +46,10 @@ fn same_numbers(
     values: &[EnumValueTable],
     others: &[EnumValueTable],
 ) -> Result<bool, AllocError>
-    ensures { IfOk result (λ same. same ≡ (all_among (table_numbers values.now) (table_numbers others.now) && all_among (table_numbers others.now) (table_numbers values.now))) }
+    ensures { IfOk result
+        (λ same. same
+        ≡ (all_among (table_numbers values.now) (table_numbers others.now)
+        && all_among (table_numbers others.now) (table_numbers values.now))) }
 {
     let numbers = table_numbers(alloc, values)?;
     let other_numbers = table_numbers(alloc, others)?;
@@ -55,7 +58,9 @@ fn same_numbers(
 
 /// Whether two enums have the same first number, and are both open, or both closed with the same numbers.
 fn same_enum(alloc: Global, older: &EnumTable, newer: &EnumTable) -> Result<bool, AllocError>
-    ensures { IfOk result (λ same. same ≡ same_scalar_kind (enum_kind (Some (enum_row older.now))) (enum_kind (Some (enum_row newer.now)))) }
+    ensures { IfOk result
+        (λ same. same
+        ≡ same_scalar_kind (enum_kind (Some (enum_row older.now))) (enum_kind (Some (enum_row newer.now)))) }
 {
     if older.first_number() != newer.first_number() || older.is_closed != newer.is_closed {
         return Ok(false);
@@ -73,7 +78,10 @@ fn same_enum_or_none(
     older: Option<&EnumTable>,
     newer: Option<&EnumTable>,
 ) -> Result<bool, AllocError>
-    ensures { IfOk result (λ same. same ≡ same_scalar_kind (enum_kind (option_map (λ e. enum_row e.now) older.entry)) (enum_kind (option_map (λ e. enum_row e.now) newer.entry))) }
+    ensures { IfOk result
+        (λ same. same
+        ≡ same_scalar_kind (enum_kind (option_map (λ e. enum_row e.now) older.entry))
+        (enum_kind (option_map (λ e. enum_row e.now) newer.entry))) }
 {
     match older {
         Some(older) => match newer {
@@ -99,7 +107,10 @@ fn enums_same(
 ) -> Result<bool, AllocError>
     requires enums { AreSameEnums same_enums.old (rows_of older.now).enums (rows_of newer.now).enums }
     ensures enums { OnOk result (AreSameEnums same_enums.new (rows_of older.now).enums (rows_of newer.now).enums) }
-    ensures same { IfOk result (λ same. same ≡ same_scalar_kind (enum_kind (slice_get (rows_of older.now).enums older_place)) (enum_kind (slice_get (rows_of newer.now).enums newer_place))) }
+    ensures same { IfOk result
+        (λ same. same
+        ≡ same_scalar_kind (enum_kind (slice_get (rows_of older.now).enums older_place))
+        (enum_kind (slice_get (rows_of newer.now).enums newer_place))) }
 {
     if same_enums.contains(&(older_place, newer_place)) {
         return Ok(true);
@@ -151,7 +162,10 @@ pub(crate) fn kinds_alike(
 ) -> Result<bool, AllocError>
     requires enums { AreSameEnums same_enums.old (rows_of older.now).enums (rows_of newer.now).enums }
     ensures enums { OnOk result (AreSameEnums same_enums.new (rows_of older.now).enums (rows_of newer.now).enums) }
-    ensures alike { IfOk result (λ alike. alike ≡ kinds_alike (schema_kind (rows_of older.now).enums field.now.kind field.now.is_group) (schema_kind (rows_of newer.now).enums like.now.kind like.now.is_group)) }
+    ensures alike { IfOk result
+        (λ alike. alike
+        ≡ kinds_alike (schema_kind (rows_of older.now).enums field.now.kind field.now.is_group)
+        (schema_kind (rows_of newer.now).enums like.now.kind like.now.is_group)) }
 {
     match field.kind {
         TableKind::Message(_) => match like.kind {
@@ -173,7 +187,9 @@ pub(crate) fn kind_fault(
     newer: &Tables,
     like: &FieldTable,
 ) -> ReductionFaultKind
-    ensures { result ≡ kinds_fault (schema_kind (rows_of older.now).enums field.now.kind field.now.is_group) (schema_kind (rows_of newer.now).enums like.now.kind like.now.is_group) }
+    ensures { result
+        ≡ kinds_fault (schema_kind (rows_of older.now).enums field.now.kind field.now.is_group)
+        (schema_kind (rows_of newer.now).enums like.now.kind like.now.is_group) }
 {
     match (field.kind, like.kind) {
         (TableKind::Enum(_), TableKind::Enum(_)) => ReductionFaultKind::Enum,

@@ -75,7 +75,10 @@ fn pair_fault(
 ) -> Result<Option<ReductionFaultKind>, AllocError>
     requires enums { AreSameEnums same_enums.old (rows_of older.now).enums (rows_of newer.now).enums }
     ensures enums { OnOk result (AreSameEnums same_enums.new (rows_of older.now).enums (rows_of newer.now).enums) }
-    ensures fault { IfOk result (λ fault. fault ≡ pair_fault next other (schema_field (rows_of older.now) (field_row field.now)) (schema_field (rows_of newer.now) (field_row like.now))) }
+    ensures fault { IfOk result
+        (λ fault. fault
+        ≡ pair_fault next other (schema_field (rows_of older.now) (field_row field.now))
+        (schema_field (rows_of newer.now) (field_row like.now))) }
 {
     if next != other {
         return Ok(Some(ReductionFaultKind::Oneof));
@@ -96,8 +99,13 @@ fn step_over(
     requires newer { newer.next.now ≡ next_members (shown_fields newer.tables.now newer.fields.now) }
     requires other { other < length newer.fields.now }
     requires enums { AreSameEnums same_enums.old (rows_of older.tables.now).enums (rows_of newer.tables.now).enums }
-    ensures enums { OnOk result (AreSameEnums same_enums.new (rows_of older.entry.tables.now).enums (rows_of newer.entry.tables.now).enums) }
-    ensures behind { IfOk result (λ step. merge_fault (shown_fields older.entry.tables.now (drop place older.entry.fields.now)) (shown_fields newer.entry.tables.now (drop other newer.entry.fields.now)) ≡ fault_behind older.entry.tables.now older.entry.fields.now newer.entry.tables.now (drop (other + 1) newer.entry.fields.now) step) }
+    ensures enums { OnOk result
+        (AreSameEnums same_enums.new (rows_of older.entry.tables.now).enums (rows_of newer.entry.tables.now).enums) }
+    ensures behind { IfOk result
+        (λ step. merge_fault (shown_fields older.entry.tables.now (drop place older.entry.fields.now))
+        (shown_fields newer.entry.tables.now (drop other newer.entry.fields.now))
+        ≡ fault_behind older.entry.tables.now older.entry.fields.now newer.entry.tables.now
+        (drop (other + 1) newer.entry.fields.now) step) }
 {
     let like = &newer.fields[other];
     let next = newer.next[other];
@@ -147,8 +155,12 @@ fn merge_fault(
     requires older { older.next.now ≡ next_members (shown_fields older.tables.now older.fields.now) }
     requires newer { newer.next.now ≡ next_members (shown_fields newer.tables.now newer.fields.now) }
     requires enums { AreSameEnums same_enums.old (rows_of older.tables.now).enums (rows_of newer.tables.now).enums }
-    ensures enums { OnOk result (AreSameEnums same_enums.new (rows_of older.entry.tables.now).enums (rows_of newer.entry.tables.now).enums) }
-    ensures fault { IfOk result (λ fault. fault ≡ merge_fault (shown_fields older.entry.tables.now older.entry.fields.now) (shown_fields newer.entry.tables.now newer.entry.fields.now)) }
+    ensures enums { OnOk result
+        (AreSameEnums same_enums.new (rows_of older.entry.tables.now).enums (rows_of newer.entry.tables.now).enums) }
+    ensures fault { IfOk result
+        (λ fault. fault
+        ≡ merge_fault (shown_fields older.entry.tables.now older.entry.fields.now)
+        (shown_fields newer.entry.tables.now newer.entry.fields.now)) }
 {
     let mut place = 0;
     for other in 0..newer.fields.len() {
@@ -191,7 +203,9 @@ fn entries_whole(
     newer: &Tables,
     other: &MessageTable,
 ) -> bool
-    ensures { result ≡ entries_whole (schema_message (rows_of older.now) (message_row message.now)) (schema_message (rows_of newer.now) (message_row other.now)) }
+    ensures { result
+        ≡ entries_whole (schema_message (rows_of older.now) (message_row message.now))
+        (schema_message (rows_of newer.now) (message_row other.now)) }
 {
     message.is_map_entry == other.is_map_entry
         && (!message.is_map_entry || are_known(older, &message.fields, newer, &other.fields))
@@ -223,7 +237,9 @@ pub(crate) fn type_fault(
     requires newer { newer_place < length (rows_of newer.now).messages }
     requires enums { AreSameEnums same_enums.old (rows_of older.now).enums (rows_of newer.now).enums }
     ensures enums { OnOk result (AreSameEnums same_enums.new (rows_of older.now).enums (rows_of newer.now).enums) }
-    ensures fault { IfOk result (λ fault. Explains fault (message_type (schema_of older.now) older_place) (message_type (schema_of newer.now) newer_place)) }
+    ensures fault { IfOk result
+        (λ fault. Explains fault (message_type (schema_of older.now) older_place)
+        (message_type (schema_of newer.now) newer_place)) }
 {
     let message = &older.messages[older_place];
     let other = &newer.messages[newer_place];

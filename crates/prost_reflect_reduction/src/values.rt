@@ -16,7 +16,10 @@ use std::collections::BTreeSet;
 
 /// Whether two fields' defaults are the same. Those of messages are.
 fn same_default(older: &Tables, field: &FieldTable, newer: &Tables, like: &FieldTable) -> bool
-    ensures { result ≡ same_default (own_type (rows_of older.now).enums (field_row field.now)).kind (own_type (rows_of older.now).enums (field_row field.now)).default (own_type (rows_of newer.now).enums (field_row like.now)).default }
+    ensures { result
+        ≡ same_default (own_type (rows_of older.now).enums (field_row field.now)).kind
+        (own_type (rows_of older.now).enums (field_row field.now)).default
+        (own_type (rows_of newer.now).enums (field_row like.now)).default }
 {
     match field.kind {
         TableKind::Message(_) => true,
@@ -38,7 +41,10 @@ pub(crate) fn value_fault(
 ) -> Result<Option<ReductionFaultKind>, AllocError>
     requires enums { AreSameEnums same_enums.old (rows_of older.now).enums (rows_of newer.now).enums }
     ensures enums { OnOk result (AreSameEnums same_enums.new (rows_of older.now).enums (rows_of newer.now).enums) }
-    ensures fault { IfOk result (λ fault. fault ≡ values_fault (own_type (rows_of older.now).enums (field_row field.now)) (own_type (rows_of newer.now).enums (field_row like.now))) }
+    ensures fault { IfOk result
+        (λ fault. fault
+        ≡ values_fault (own_type (rows_of older.now).enums (field_row field.now))
+        (own_type (rows_of newer.now).enums (field_row like.now))) }
 {
     if !kinds_alike(alloc, same_enums, older, field, newer, like)? {
         return Ok(Some(kind_fault(older, field, newer, like)));
@@ -66,7 +72,10 @@ pub(crate) fn keys_match(
 ) -> Result<bool, AllocError>
     requires enums { AreSameEnums same_enums.old (rows_of older.now).enums (rows_of newer.now).enums }
     ensures enums { OnOk result (AreSameEnums same_enums.new (rows_of older.now).enums (rows_of newer.now).enums) }
-    ensures same { IfOk result (λ same. same ≡ value_types_match [] (own_type (rows_of older.now).enums (field_row field.now)) (own_type (rows_of newer.now).enums (field_row like.now))) }
+    ensures same { IfOk result
+        (λ same. same
+        ≡ value_types_match [] (own_type (rows_of older.now).enums (field_row field.now))
+        (own_type (rows_of newer.now).enums (field_row like.now))) }
 {
     match field.kind {
         TableKind::Message(_) => Ok(false),

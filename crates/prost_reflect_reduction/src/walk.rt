@@ -37,7 +37,10 @@ fn add(
     requires { IsSetOf set.old pairs.old.items }
     ensures set { OnOk result (IsSetOf set.new pairs.new.items) }
     ensures pairs { OnOk result (pairs.new.items ≡ joined pairs.old.items (pair ∷ [])) }
-    ensures sources { OnOk result ((older newer : Schema) → AreSources older newer pairs.old.items sources.old.items → LeadsOn older newer pairs.old.items source (pair ∷ []) → AreSources older newer pairs.new.items sources.new.items) }
+    ensures sources { OnOk result
+        ((older newer : Schema) → AreSources older newer pairs.old.items sources.old.items
+        → LeadsOn older newer pairs.old.items source (pair ∷ [])
+        → AreSources older newer pairs.new.items sources.new.items) }
 {
     if set.insert(pair)? {
         pairs.push(pair)?;
@@ -53,7 +56,9 @@ fn fields_ask(
     newer: &Tables,
     like: &FieldTable,
 ) -> Option<(usize, usize)>
-    ensures { listed result ≡ kinds_ask (schema_field (rows_of older.now) (field_row field.now)).value_type.kind (schema_field (rows_of newer.now) (field_row like.now)).value_type.kind }
+    ensures { listed result
+        ≡ kinds_ask (schema_field (rows_of older.now) (field_row field.now)).value_type.kind
+        (schema_field (rows_of newer.now) (field_row like.now)).value_type.kind }
 {
     let value = value_field(older, field);
     let like_value = value_field(newer, like);
@@ -72,7 +77,9 @@ fn field_asks(
     newer_place: usize,
 ) -> Option<(usize, usize)>
     requires { newer_place < length (rows_of newer.now).messages }
-    ensures { listed result ≡ field_asks (known (schema_of newer.now) newer_place) (schema_field (rows_of older.now) (field_row field.now)) }
+    ensures { listed result
+        ≡ field_asks (known (schema_of newer.now) newer_place)
+        (schema_field (rows_of older.now) (field_row field.now)) }
 {
     match newer.field_table(newer_place, field.number) {
         Some(like) => fields_ask(older, field, newer, like),
@@ -91,7 +98,10 @@ fn add_listed(
     requires { IsSetOf set.old pairs.old.items }
     ensures set { OnOk result (IsSetOf set.new pairs.new.items) }
     ensures pairs { OnOk result (pairs.new.items ≡ joined pairs.old.items (listed pair)) }
-    ensures sources { OnOk result ((older newer : Schema) → AreSources older newer pairs.old.items sources.old.items → LeadsOn older newer pairs.old.items source (listed pair) → AreSources older newer pairs.new.items sources.new.items) }
+    ensures sources { OnOk result
+        ((older newer : Schema) → AreSources older newer pairs.old.items sources.old.items
+        → LeadsOn older newer pairs.old.items source (listed pair)
+        → AreSources older newer pairs.new.items sources.new.items) }
 {
     match pair {
         Some(pair) => add(pairs, sources, set, pair, source),
@@ -113,8 +123,18 @@ fn add_all(
     requires set { IsSetOf set.old pairs.old.items }
     requires newer { newer_place < length (rows_of newer.now).messages }
     ensures set { OnOk result (IsSetOf set.new pairs.new.items) }
-    ensures pairs { OnOk result (pairs.new.items ≡ joined pairs.old.items (flat_map (field_asks (known (schema_of newer.now) newer_place)) (map (schema_field (rows_of older.now)) (map field_row fields.now)))) }
-    ensures sources { OnOk result ((older_place : ℕ) → IsPairAt pairs.old.items pair older_place newer_place → map (schema_field (rows_of older.now)) (map field_row fields.now) ≡ known (schema_of older.now) older_place → numbers_differ (known (schema_of older.now) older_place) ≡ true → AreSources (schema_of older.now) (schema_of newer.now) pairs.old.items sources.old.items → AreSources (schema_of older.now) (schema_of newer.now) pairs.new.items sources.new.items) }
+    ensures pairs { OnOk result
+        (pairs.new.items
+        ≡ joined pairs.old.items
+        (flat_map (field_asks (known (schema_of newer.now) newer_place))
+        (map (schema_field (rows_of older.now)) (map field_row fields.now)))) }
+    ensures sources { OnOk result
+        ((older_place : ℕ) → IsPairAt pairs.old.items pair older_place newer_place
+        → map (schema_field (rows_of older.now)) (map field_row fields.now)
+        ≡ known (schema_of older.now) older_place
+        → numbers_differ (known (schema_of older.now) older_place) ≡ true
+        → AreSources (schema_of older.now) (schema_of newer.now) pairs.old.items sources.old.items
+        → AreSources (schema_of older.now) (schema_of newer.now) pairs.new.items sources.new.items) }
 {
     for field in fields {
         let source = Source {
@@ -147,8 +167,15 @@ fn add_asked(
     requires older { older_place < length (rows_of older.now).messages }
     requires newer { newer_place < length (rows_of newer.now).messages }
     ensures set { OnOk result (IsSetOf set.new pairs.new.items) }
-    ensures pairs { OnOk result (pairs.new.items ≡ joined pairs.old.items (types_ask (message_type (schema_of older.now) older_place) (message_type (schema_of newer.now) newer_place))) }
-    ensures sources { OnOk result (IsPairAt pairs.old.items pair older_place newer_place → AreSources (schema_of older.now) (schema_of newer.now) pairs.old.items sources.old.items → AreSources (schema_of older.now) (schema_of newer.now) pairs.new.items sources.new.items) }
+    ensures pairs { OnOk result
+        (pairs.new.items
+        ≡ joined pairs.old.items
+        (types_ask (message_type (schema_of older.now) older_place)
+        (message_type (schema_of newer.now) newer_place))) }
+    ensures sources { OnOk result
+        (IsPairAt pairs.old.items pair older_place newer_place
+        → AreSources (schema_of older.now) (schema_of newer.now) pairs.old.items sources.old.items
+        → AreSources (schema_of older.now) (schema_of newer.now) pairs.new.items sources.new.items) }
 {
     add_all(
         pairs,
@@ -166,7 +193,9 @@ fn add_asked(
 fn path_to(alloc: Global, sources: &[Source], place: usize) -> Result<Vec<u32>, AllocError>
     requires place { place < length sources.now }
     requires before { AreBefore sources.now }
-    ensures { IfOk result (λ path. (older newer : Schema) (pairs : TypePairs) → AreSources older newer pairs sources.now → pair_at older newer (get_or pairs 0 (0, 0)) path.items ≡ get_or pairs place (0, 0) ∷ []) }
+    ensures { IfOk result
+        (λ path. (older newer : Schema) (pairs : TypePairs) → AreSources older newer pairs sources.now
+        → pair_at older newer (get_or pairs 0 (0, 0)) path.items ≡ get_or pairs place (0, 0) ∷ []) }
 {
     let mut path = Vec::new(alloc);
     let mut at = place;
@@ -199,8 +228,12 @@ pub fn reduction_fault(
 ) -> Result<Option<ReductionFault>, AllocError>
     requires older { older_place < length (rows_of older.now).messages }
     requires newer { newer_place < length (rows_of newer.now).messages }
-    ensures none { IfOk result (λ fault. Reduced (schema_of older.now) older_place (schema_of newer.now) newer_place ↔ IsTrue (is_none fault)) }
-    ensures stands { IfOk result (λ found. (fault : ReductionFault) → found ≡ Some fault → FaultStands (schema_of older.now) older_place (schema_of newer.now) newer_place fault) }
+    ensures none { IfOk result
+        (λ fault. Reduced (schema_of older.now) older_place (schema_of newer.now) newer_place
+        ↔ IsTrue (is_none fault)) }
+    ensures stands { IfOk result
+        (λ found. (fault : ReductionFault) → found ≡ Some fault
+        → FaultStands (schema_of older.now) older_place (schema_of newer.now) newer_place fault) }
 {
     let mut set = BTreeSet::new(alloc);
     let mut pairs = Vec::new(alloc);

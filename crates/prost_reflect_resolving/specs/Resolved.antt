@@ -28,5 +28,6 @@ resolved_lists lists = map (λ fields. map resolved_row fields.items) lists
 pub record IsResolved (resolved : Resolved) (new : FlatRows) : Type 0 where
   pub index : IsIndex resolved.index new
   pub entries : resolved.entries.items ≡ map is_entry new.messages
-  pub fields : resolved_lists resolved.fields.items ≡ map (λ m. map (resolve (links_of (all_rows resolved.index.base new))) m.fields) new.messages
+  pub fields : resolved_lists resolved.fields.items
+      ≡ map (λ m. map (resolve (links_of (all_rows resolved.index.base new))) m.fields) new.messages
   pub extensions : map resolved_row resolved.extensions.items ≡ map (resolve (links_of (all_rows resolved.index.base new))) new.extensions

@@ -55,7 +55,9 @@ fn linked_default(
     text: &Option<String>,
 ) -> Result<Option<WrittenDefault>, AllocError>
     requires { IsIndex index.now (flat_rows flat.now) }
-    ensures { IfOk result (λ d. option_map written_scalar d ≡ linked_default (links_of (all_rows index.now.base (flat_rows flat.now))) kind text.now) }
+    ensures { IfOk result
+        (λ d. option_map written_scalar d
+        ≡ linked_default (links_of (all_rows index.now.base (flat_rows flat.now))) kind text.now) }
 {
     match text {
         Some(text) => {
@@ -74,7 +76,9 @@ fn resolved_field<'f, 'a>(
     definition: &'f Definition<'a, FieldDescriptorProto>,
 ) -> Result<ResolvedField<'f>, AllocError>
     requires { IsIndex index.now (flat_rows flat.now) }
-    ensures { IfOk result (λ f. resolved_row f ≡ resolve (links_of (all_rows index.now.base (flat_rows flat.now))) (definition_row definition.now)) }
+    ensures { IfOk result
+        (λ f. resolved_row f
+        ≡ resolve (links_of (all_rows index.now.base (flat_rows flat.now))) (definition_row definition.now)) }
 {
     let proto = definition.proto;
     let message = message_place(index, flat, &proto.type_name);
@@ -97,7 +101,10 @@ fn resolved_list<'f, 'a>(
     definitions: &'f [Definition<'a, FieldDescriptorProto>],
 ) -> Result<Vec<ResolvedField<'f>>, AllocError>
     requires { IsIndex index.now (flat_rows flat.now) }
-    ensures { IfOk result (λ v. map resolved_row v.items ≡ map (resolve (links_of (all_rows index.now.base (flat_rows flat.now)))) (map definition_row definitions.now)) }
+    ensures { IfOk result
+        (λ v. map resolved_row v.items
+        ≡ map (resolve (links_of (all_rows index.now.base (flat_rows flat.now))))
+        (map definition_row definitions.now)) }
 {
     let mut fields = Vec::with_capacity(alloc, definitions.len())?;
     for definition in definitions {
@@ -114,7 +121,10 @@ fn resolved_fields<'f, 'a>(
     messages: &'f [FlatMessage<'a>],
 ) -> Result<Vec<Vec<ResolvedField<'f>>>, AllocError>
     requires { IsIndex index.now (flat_rows flat.now) }
-    ensures { IfOk result (λ v. resolved_lists v.items ≡ map (λ m. map (resolve (links_of (all_rows index.now.base (flat_rows flat.now)))) m.fields) (map message_row messages.now)) }
+    ensures { IfOk result
+        (λ v. resolved_lists v.items
+        ≡ map (λ m. map (resolve (links_of (all_rows index.now.base (flat_rows flat.now)))) m.fields)
+        (map message_row messages.now)) }
 {
     let mut lists = Vec::with_capacity(alloc, messages.len())?;
     for message in messages {

@@ -14,4 +14,5 @@ pub record BeginsWith (n : ℕ) (bytes rest : List ℕ) : Type 0 where
 
 -- The set has the number of each record that the bytes spell, of records that nest within the limit.
 pub record HasNumbersOf (bytes : List ℕ) (numbers : BTreeSet ℕ) : Type 0 where
-  pub each : (rs : List Record) → Spells (body_of rs) bytes → raw_levels (body_of rs) ≤ LEVEL_LIMIT → list_all (λ r. has numbers r.number) rs ≡ true
+  pub each : (rs : List Record) → Spells (body_of rs) bytes → raw_levels (body_of rs) ≤ LEVEL_LIMIT
+      → list_all (λ r. has numbers r.number) rs ≡ true

@@ -19,7 +19,8 @@ const PATH_LIMIT: usize = 101;
 /// path is empty or has more than 101 numbers, and an extension is none.
 pub fn field_led<'a>(pool: &'a LinkedPool, place: usize, path: &[u32]) -> Option<&'a FieldTable>
     requires { place < length (pool_rows pool.now).messages }
-    ensures { option_map (λ field. schema_field (pool_rows pool.now) (field_row field.now)) result ≡ field_led (schema_from (pool_rows pool.now)) place path.now }
+    ensures { option_map (λ field. schema_field (pool_rows pool.now) (field_row field.now)) result
+        ≡ field_led (schema_from (pool_rows pool.now)) place path.now }
 {
     let (message, index) = field_place(pool, place, path)?;
     Some(table_at(pool, message, index))

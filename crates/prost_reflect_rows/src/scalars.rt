@@ -44,7 +44,9 @@ pub fn scalar_default<'a>(pool: &LinkedPool, field: &'a FieldTable) -> ScalarRef
 /// Whether a scalar is the default of a field of the message type's pool: the one that the definition writes, else that of the
 /// kind. A scalar that is not of the kind is none.
 pub fn is_default(message_type: &PooledType, field: &FieldTable, scalar: ScalarRef<'_>) -> bool
-    ensures { result ≡ scalar_eq (scalar_of scalar.entry) (own_type (shared_rows message_type.now.pool).enums (field_row field.now)).default }
+    ensures { result
+        ≡ scalar_eq (scalar_of scalar.entry)
+        (own_type (shared_rows message_type.now.pool).enums (field_row field.now)).default }
 {
     scalar.equals(scalar_default(message_type.pool(), field))
 }

@@ -52,7 +52,9 @@ pub fn target_at(message_type: &PooledType, number: u32) -> Target
 
 /// What a record of a repeated field is read as.
 fn repeated_target(message_type: &PooledType, field: &FieldTable) -> Target
-    ensures { result ≡ repeated_target_of (map_parts (pool_rows message_type.now.pool) (field_row field.now)) (field_row field.now).kind (field_row field.now).is_group }
+    ensures { result
+        ≡ repeated_target_of (map_parts (pool_rows message_type.now.pool) (field_row field.now))
+        (field_row field.now).kind (field_row field.now).is_group }
 {
     match message_type.map_parts(field) {
         Some((key, value)) => entry_target(key.kind, value.kind),

@@ -77,7 +77,9 @@ pub fn write_kept_scalar<S: Sink>(
     scalar: ScalarRef<'_>,
 )
     requires { TakesScalar (field_row field.now).kind (ScalarValue (scalar_of scalar)) }
-    ensures { Adds S.added sink.old sink.new (kept_scalar_bytes number (pool_rows message_type.now.pool).enums (field_row field.now) (ScalarValue (scalar_of scalar.entry))) }
+    ensures { Adds S.added sink.old sink.new
+        (kept_scalar_bytes number (pool_rows message_type.now.pool).enums (field_row field.now)
+        (ScalarValue (scalar_of scalar.entry))) }
 {
     if !field.supports_presence && is_default(message_type, field, scalar) {
         return;

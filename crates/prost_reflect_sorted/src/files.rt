@@ -53,7 +53,10 @@ fn top_messages(
     files: usize,
     flat: &Flat,
 ) -> Result<Vec<Vec<usize>>, AllocError>
-    ensures { IfOk result (λ v. map (λ l. l.items) v.items ≡ gathered_from (λ m. top_file m.definition) (length (rows_below base.entry).messages) (flat_rows flat.now).messages (length (files_below base.entry)) files) }
+    ensures { IfOk result
+        (λ v. map (λ l. l.items) v.items
+        ≡ gathered_from (λ m. top_file m.definition) (length (rows_below base.entry).messages)
+        (flat_rows flat.now).messages (length (files_below base.entry)) files) }
 {
     let owner = |message: &FlatMessage| top_file(&message.definition);
     Ok(gathered(
@@ -72,7 +75,10 @@ fn top_enums(
     files: usize,
     flat: &Flat,
 ) -> Result<Vec<Vec<usize>>, AllocError>
-    ensures { IfOk result (λ v. map (λ l. l.items) v.items ≡ gathered_from (λ e. top_file e.definition) (length (rows_below base.entry).enums) (flat_rows flat.now).enums (length (files_below base.entry)) files) }
+    ensures { IfOk result
+        (λ v. map (λ l. l.items) v.items
+        ≡ gathered_from (λ e. top_file e.definition) (length (rows_below base.entry).enums)
+        (flat_rows flat.now).enums (length (files_below base.entry)) files) }
 {
     let owner = |declared: &FlatEnum| top_file(&declared.definition);
     Ok(gathered(
@@ -91,7 +97,10 @@ fn top_extensions(
     files: usize,
     flat: &Flat,
 ) -> Result<Vec<Vec<usize>>, AllocError>
-    ensures { IfOk result (λ v. map (λ l. l.items) v.items ≡ gathered_from top_file (length (rows_below base.entry).extensions) (flat_rows flat.now).extensions (length (files_below base.entry)) files) }
+    ensures { IfOk result
+        (λ v. map (λ l. l.items) v.items
+        ≡ gathered_from top_file (length (rows_below base.entry).extensions) (flat_rows flat.now).extensions
+        (length (files_below base.entry)) files) }
 {
     let owner = |extension: &Definition<FieldDescriptorProto>| top_file(extension);
     Ok(gathered(
@@ -110,7 +119,10 @@ fn top_services(
     files: usize,
     flat: &Flat,
 ) -> Result<Vec<Vec<usize>>, AllocError>
-    ensures { IfOk result (λ v. map (λ l. l.items) v.items ≡ gathered_from (λ s. top_file s.definition) (length (rows_below base.entry).services) (flat_rows flat.now).services (length (files_below base.entry)) files) }
+    ensures { IfOk result
+        (λ v. map (λ l. l.items) v.items
+        ≡ gathered_from (λ s. top_file s.definition) (length (rows_below base.entry).services)
+        (flat_rows flat.now).services (length (files_below base.entry)) files) }
 {
     let owner = |service: &FlatService| top_file(&service.definition);
     Ok(gathered(
@@ -163,7 +175,10 @@ fn dependency_places(
     dependencies: &[String],
 ) -> Result<Vec<usize>, AllocError>
     requires { IsIndexFrom (length (files_below base)) index.now (file_names (file_list files.now)) }
-    ensures { IfOk result (λ v. v.items ≡ map (λ d. file_place (file_names (files_below base.entry ++ file_list files.now)) (string_bytes d)) dependencies.now) }
+    ensures { IfOk result
+        (λ v. v.items
+        ≡ map (λ d. file_place (file_names (files_below base.entry ++ file_list files.now)) (string_bytes d))
+        dependencies.now) }
 {
     let mut places = Vec::with_capacity(alloc, dependencies.len())?;
     for dependency in dependencies {
@@ -206,7 +221,10 @@ fn file_table(
     requires index { IsIndexFrom (length (files_below base)) index.now (file_names (file_list files.now)) }
     requires tops { AreTops tops.now (length (files_below base)) (rows_below base) (flat_rows flat.now) (length files.now) }
     requires place { place < length files.now }
-    ensures { IfOk result (λ t. file_table_row t ≡ added_file (file_names (files_below base.entry ++ file_list files.now)) (rows_below base.entry) (flat_rows flat.now) (length (files_below base.entry) + place) file.now) }
+    ensures { IfOk result
+        (λ t. file_table_row t
+        ≡ added_file (file_names (files_below base.entry ++ file_list files.now)) (rows_below base.entry)
+        (flat_rows flat.now) (length (files_below base.entry) + place) file.now) }
 {
     let dependencies = dependency_places(alloc, base, index, files, file.dependency.as_slice())?;
     Ok(FileTable {
@@ -235,7 +253,12 @@ pub fn linked_files(
     files: &[&FileDescriptorProto],
     flat: &Flat,
 ) -> Result<SharedList<FileTable>, AllocError>
-    ensures { IfOk result (λ l. map file_table_row l ≡ (catalog_below base.entry).files ++ each_from (added_file (file_names (files_below base.entry ++ file_list files.now)) (rows_below base.entry) (flat_rows flat.now)) (length (files_below base.entry)) (file_list files.now)) }
+    ensures { IfOk result
+        (λ l. map file_table_row l
+        ≡ (catalog_below base.entry).files
+        ++ each_from
+        (added_file (file_names (files_below base.entry ++ file_list files.now)) (rows_below base.entry)
+        (flat_rows flat.now)) (length (files_below base.entry)) (file_list files.now)) }
 {
     let names = file_names(alloc, files)?;
     let index = index_from(alloc, base.file_count(), names.as_slice())?;

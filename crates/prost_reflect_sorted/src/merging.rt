@@ -110,7 +110,9 @@ pub fn merged_by_name(
     sort: Sort,
     added: &[&str],
 ) -> Result<SharedSlice<usize>, AllocError>
-    ensures { IfOk result (λ places. places ≡ grown_order (names_below base.entry sort) (text_list added.now) (order_below base.entry sort)) }
+    ensures { IfOk result
+        (λ places. places
+        ≡ grown_order (names_below base.entry sort) (text_list added.now) (order_below base.entry sort)) }
 {
     let old = order_below(base, sort);
     if added.is_empty() {

@@ -23,7 +23,9 @@ fn linked_method(
     method: &Definition<MethodDescriptorProto>,
 ) -> Result<MethodTable, AllocError>
     requires { IsIndex index.now (flat_rows flat.now) }
-    ensures { IfOk result (λ m. method_table_row m ≡ linked_method (links_of (all_rows index.now.base (flat_rows flat.now))) (definition_row method.now)) }
+    ensures { IfOk result
+        (λ m. method_table_row m
+        ≡ linked_method (links_of (all_rows index.now.base (flat_rows flat.now))) (definition_row method.now)) }
 {
     let proto = method.proto;
     Ok(MethodTable {
@@ -40,7 +42,10 @@ fn linked_methods(
     methods: &[Definition<MethodDescriptorProto>],
 ) -> Result<Vec<MethodTable>, AllocError>
     requires { IsIndex index.now (flat_rows flat.now) }
-    ensures { IfOk result (λ v. map method_table_row v.items ≡ map (linked_method (links_of (all_rows index.now.base (flat_rows flat.now)))) (map definition_row methods.now)) }
+    ensures { IfOk result
+        (λ v. map method_table_row v.items
+        ≡ map (linked_method (links_of (all_rows index.now.base (flat_rows flat.now))))
+        (map definition_row methods.now)) }
 {
     let mut tables = Vec::with_capacity(alloc, methods.len())?;
     for method in methods {
@@ -56,7 +61,9 @@ fn linked_service(
     service: &FlatService,
 ) -> Result<ServiceTable, AllocError>
     requires { IsIndex index.now (flat_rows flat.now) }
-    ensures { IfOk result (λ s. service_table_row s ≡ linked_service (links_of (all_rows index.now.base (flat_rows flat.now))) (service_row service.now)) }
+    ensures { IfOk result
+        (λ s. service_table_row s
+        ≡ linked_service (links_of (all_rows index.now.base (flat_rows flat.now))) (service_row service.now)) }
 {
     let definition = &service.definition;
     Ok(ServiceTable {
@@ -77,7 +84,11 @@ pub fn linked_services(
     services: &[FlatService],
 ) -> Result<SharedList<ServiceTable>, AllocError>
     requires { IsIndex index.now (flat_rows flat.now) }
-    ensures { IfOk result (λ l. map service_table_row l ≡ (catalog_below index.now.base).services ++ map (linked_service (links_of (all_rows index.now.base (flat_rows flat.now)))) (map service_row services.now)) }
+    ensures { IfOk result
+        (λ l. map service_table_row l
+        ≡ (catalog_below index.now.base).services
+        ++ map (linked_service (links_of (all_rows index.now.base (flat_rows flat.now))))
+        (map service_row services.now)) }
 {
     let mut tables = index.base.pool().catalog().services.clone()?;
     for service in services {

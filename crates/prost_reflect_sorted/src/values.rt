@@ -79,14 +79,16 @@ fn full_name_in<'f, 'a>(enums: &'f [FlatEnum<'a>], pair: (usize, usize)) -> &'f 
 }
 
 fn compare_full_names(enums: &[FlatEnum], first: (usize, usize), second: (usize, usize)) -> Ordering
-    ensures { let names = map (λ e. names_of e.values) (map enum_row enums.now) in result ≡ slice_cmp nat_cmp (text_in names first) (text_in names second) }
+    ensures { let names = map (λ e. names_of e.values) (map enum_row enums.now) in
+        result ≡ slice_cmp nat_cmp (text_in names first) (text_in names second) }
 {
     full_name_in(enums, first).cmp(full_name_in(enums, second))
 }
 
 /// Sorts values by their full names; values of equal full names stay in their order.
 fn sort_by_full_name(enums: &[FlatEnum], pairs: &mut Vec<(usize, usize)>) -> Result<(), AllocError>
-    ensures { let names = map (λ e. names_of e.values) (map enum_row enums.now) in OnOk result (pairs.new.items ≡ sorted_by (text_before (text_in names)) pairs.old.items) }
+    ensures { let names = map (λ e. names_of e.values) (map enum_row enums.now) in
+        OnOk result (pairs.new.items ≡ sorted_by (text_before (text_in names)) pairs.old.items) }
 {
     pairs.sort_by(|first, second| compare_full_names(enums, *first, *second))?;
     Ok(())
@@ -150,7 +152,9 @@ pub fn merged_values(
     base: Base<'_>,
     flat: &Flat,
 ) -> Result<SharedSlice<(usize, usize)>, AllocError>
-    ensures { IfOk result (λ places. places ≡ grown_values (rows_below base.entry) (flat_rows flat.now) (catalog_below base.entry).by_name.values) }
+    ensures { IfOk result
+        (λ places. places
+        ≡ grown_values (rows_below base.entry) (flat_rows flat.now) (catalog_below base.entry).by_name.values) }
 {
     let old = &base.pool().catalog().by_name.values;
     let pairs = ordered_values(alloc, flat)?;

@@ -26,8 +26,13 @@ pub record CheckedOptions : Type 0 where
 
 pub record KeysAndValues : Type 0 where
   -- The types 1 to 18 in order.
-  pub keys : map (λ n. is_key_type (Some (pos n))) (1 ∷ 2 ∷ 3 ∷ 4 ∷ 5 ∷ 6 ∷ 7 ∷ 8 ∷ 9 ∷ 10 ∷ 11 ∷ 12 ∷ 13 ∷ 14 ∷ 15 ∷ 16 ∷ 17 ∷ 18 ∷ [])
-      ≡ false ∷ false ∷ true ∷ true ∷ true ∷ true ∷ true ∷ true ∷ true ∷ false ∷ false ∷ false ∷ true ∷ false ∷ true ∷ true ∷ true ∷ true ∷ []
+  pub keys : map (λ n. is_key_type (Some (pos n)))
+      (1 ∷ 2 ∷ 3 ∷ 4 ∷ 5 ∷ 6 ∷ 7 ∷ 8 ∷ 9 ∷ 10 ∷ 11 ∷ 12 ∷ 13 ∷ 14 ∷ 15 ∷ 16 ∷ 17 ∷ 18 ∷ [])
+      ≡ false ∷ false ∷ true ∷ true ∷ true ∷ true ∷ true ∷ true ∷ true ∷ false ∷ false ∷ false ∷ true ∷ false ∷ true
+      ∷ true
+      ∷ true
+      ∷ true
+      ∷ []
   pub no_types : map is_key_type (None ∷ Some (negsuc 0) ∷ Some (pos 0) ∷ Some (pos 19) ∷ []) ≡ false ∷ false ∷ false ∷ false ∷ []
   pub either_order : (key value : DefinitionRow FieldDescriptorProto) → is_entry_key key ≡ true → is_entry_value value ≡ true →
       (is_key_and_value (key ∷ value ∷ []) ≡ true) × (is_key_and_value (value ∷ key ∷ []) ≡ true)

@@ -15,7 +15,8 @@ is_entry m = unwrap_or (bool_option 7 m.definition.proto.options) false
 
 -- Keys are numbers (floats aside), bools or texts: of the types, neither double (1), float (2), group (10), message (11), bytes (12) nor enum (14).
 abbrev pub is_key_type : Option ℤ → Bool
-is_key_type code = is_type (number_or_zero code) && not (is_code 1 code || is_code 2 code || is_message_type code || is_code 12 code || is_enum_type code)
+is_key_type code = is_type (number_or_zero code)
+    && not (is_code 1 code || is_code 2 code || is_message_type code || is_code 12 code || is_enum_type code)
 
 -- One value, without a written default, in no oneof.
 abbrev pub is_plain : DefinitionRow FieldDescriptorProto → Bool

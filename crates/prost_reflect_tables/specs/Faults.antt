@@ -22,7 +22,8 @@ abbrev pub is_unnamed : Option (String Global) → Bool
 is_unnamed name = nat_eq (length (text_or_empty name)) 0
 
 abbrev pub message_unnamed : FlatMessageRow → Bool
-message_unnamed m = is_unnamed m.definition.proto.name || list_any (λ f. is_unnamed f.proto.name) m.fields || list_any (λ o. is_unnamed o.proto.name) m.oneofs
+message_unnamed m = is_unnamed m.definition.proto.name || list_any (λ f. is_unnamed f.proto.name) m.fields
+    || list_any (λ o. is_unnamed o.proto.name) m.oneofs
 
 abbrev pub enum_unnamed : FlatEnumRow → Bool
 enum_unnamed e = is_unnamed e.definition.proto.name || list_any (λ v. is_unnamed v.proto.name) e.values
@@ -50,7 +51,8 @@ is_outside count (pos i) = nat_le count i
 is_outside count (negsuc i) = true
 
 abbrev pub import_outside : FileDescriptorProto → Bool
-import_outside f = list_any (is_outside (length f.dependency.items)) f.public_dependency.items || list_any (is_outside (length f.dependency.items)) f.weak_dependency.items
+import_outside f = list_any (is_outside (length f.dependency.items)) f.public_dependency.items
+    || list_any (is_outside (length f.dependency.items)) f.weak_dependency.items
 
 abbrev pub oneof_outside : ℕ → Option ℤ → Bool
 oneof_outside count None = false
@@ -87,7 +89,8 @@ abbrev pub range_bad : Option ℤ → Option ℤ → Bool
 range_bad start end = is_negative (number_or_zero start) || int_le (number_or_zero end) (number_or_zero start)
 
 abbrev pub message_range_bad : FlatMessageRow → Bool
-message_range_bad m = list_any (λ r. range_bad r.start r.end) m.definition.proto.extension_range || list_any (λ r. range_bad r.start r.end) m.definition.proto.reserved_range
+message_range_bad m = list_any (λ r. range_bad r.start r.end) m.definition.proto.extension_range
+    || list_any (λ r. range_bad r.start r.end) m.definition.proto.reserved_range
 
 abbrev pub enum_range_bad : FlatEnumRow → Bool
 enum_range_bad e = list_any (λ r. not (int_le (number_or_zero r.start) (number_or_zero r.end))) e.definition.proto.reserved_range.items
@@ -113,7 +116,8 @@ abbrev pub is_enum_type : Option ℤ → Bool
 is_enum_type code = is_code 14 code
 
 abbrev pub type_missing : DefinitionRow FieldDescriptorProto → Bool
-type_missing d = not (is_type (number_or_zero d.proto.type_)) || ((is_message_type d.proto.type_ || is_enum_type d.proto.type_) && is_none d.proto.type_name)
+type_missing d = not (is_type (number_or_zero d.proto.type_))
+    || ((is_message_type d.proto.type_ || is_enum_type d.proto.type_) && is_none d.proto.type_name)
 
 abbrev pub extendee_missing : DefinitionRow FieldDescriptorProto → Bool
 extendee_missing d = is_none d.proto.extendee
@@ -122,7 +126,8 @@ abbrev pub method_type_missing : DefinitionRow MethodDescriptorProto → Bool
 method_type_missing d = is_none d.proto.input_type || is_none d.proto.output_type
 
 abbrev pub missing_type : FlatRows → Bool
-missing_type rows = any_field type_missing rows || list_any extendee_missing rows.extensions || list_any (λ s. list_any method_type_missing s.methods) rows.services
+missing_type rows = any_field type_missing rows || list_any extendee_missing rows.extensions
+    || list_any (λ s. list_any method_type_missing s.methods) rows.services
 
 -- BadLabel: a label is 1, 2 or 3, an absent one counts as 1, and in a proto3 file none is 2, required.
 
@@ -172,7 +177,8 @@ names_in_services [] = []
 names_in_services (s ∷ ss) = (s.definition.full_name ∷ []) ++ names_of s.methods ++ names_in_services ss
 
 abbrev pub full_names : FlatRows → List (List ℕ)
-full_names rows = names_in_messages rows.messages ++ names_in_enums rows.enums ++ names_of rows.extensions ++ names_in_services rows.services
+full_names rows = names_in_messages rows.messages ++ names_in_enums rows.enums ++ names_of rows.extensions
+    ++ names_in_services rows.services
 
 -- One stands among those before it.
 abbrev pub repeats_by : {X : Type 0} → (X → X → Bool) → (before : List X) → List X → Bool
@@ -220,7 +226,8 @@ names_nothing names None = false
 names_nothing names (Some text) = is_none (name_place names (without_dot (string_bytes text)))
 
 abbrev pub type_unknown : FlatRows → DefinitionRow FieldDescriptorProto → Bool
-type_unknown rows d = (is_message_type d.proto.type_ && names_nothing (message_names rows) d.proto.type_name) || (is_enum_type d.proto.type_ && names_nothing (enum_names rows) d.proto.type_name)
+type_unknown rows d = (is_message_type d.proto.type_ && names_nothing (message_names rows) d.proto.type_name)
+    || (is_enum_type d.proto.type_ && names_nothing (enum_names rows) d.proto.type_name)
 
 abbrev pub extendee_unknown : FlatRows → DefinitionRow FieldDescriptorProto → Bool
 extendee_unknown rows d = names_nothing (message_names rows) d.proto.extendee
@@ -229,7 +236,8 @@ abbrev pub method_type_unknown : FlatRows → DefinitionRow MethodDescriptorProt
 method_type_unknown rows d = names_nothing (message_names rows) d.proto.input_type || names_nothing (message_names rows) d.proto.output_type
 
 abbrev pub unknown_type : FlatRows → Bool
-unknown_type rows = any_field (type_unknown rows) rows || list_any (extendee_unknown rows) rows.extensions || list_any (λ s. list_any (method_type_unknown rows) s.methods) rows.services
+unknown_type rows = any_field (type_unknown rows) rows || list_any (extendee_unknown rows) rows.extensions
+    || list_any (λ s. list_any (method_type_unknown rows) s.methods) rows.services
 
 -- OutsideRange: an extension's number is in an extension range of the message that it extends, where that message is there.
 
@@ -270,7 +278,9 @@ numbered_at number (Some place) = record { message = place; number = number } �
 
 abbrev pub numbered_extensions : FlatRows → List (DefinitionRow FieldDescriptorProto) → List Numbered
 numbered_extensions rows [] = []
-numbered_extensions rows (d ∷ ds) = numbered_at (number_or_zero d.proto.number) (place_named (message_names rows) d.proto.extendee) ++ numbered_extensions rows ds
+numbered_extensions rows (d ∷ ds) = numbered_at (number_or_zero d.proto.number)
+    (place_named (message_names rows) d.proto.extendee)
+    ++ numbered_extensions rows ds
 
 abbrev pub all_numbered : FlatRows → List Numbered
 all_numbered rows = numbered_in 0 rows.messages ++ numbered_extensions rows rows.extensions

@@ -185,7 +185,8 @@ abbrev pub declared_fields : Links → List (DefinitionRow FieldDescriptorProto)
 declared_fields links ds = map (linked_field links false) ds
 
 abbrev pub fields_of_message : Links → (extensions : List (DefinitionRow FieldDescriptorProto)) → ℕ → FlatMessageRow → List FieldRow
-fields_of_message links extensions T m = declared_fields links m.fields ++ map (linked_field links true) (belonging (extended_place links) extensions T)
+fields_of_message links extensions T m = declared_fields links m.fields
+    ++ map (linked_field links true) (belonging (extended_place links) extensions T)
 
 -- ONEOFS
 
@@ -196,11 +197,15 @@ oneof_place d = place_in d.proto.oneof_index
 abbrev pub member_place : List FieldRow → DefinitionRow FieldDescriptorProto → ℕ
 member_place fields d = length (filter (λ f. nat_lt f.number (natural_or_zero d.proto.number)) fields)
 
-abbrev pub linked_oneof : List FieldRow → (members : List (DefinitionRow FieldDescriptorProto)) → DefinitionRow OneofDescriptorProto → OneofRow
+abbrev pub linked_oneof : List FieldRow → (members : List (DefinitionRow FieldDescriptorProto))
+    → DefinitionRow OneofDescriptorProto
+    → OneofRow
 linked_oneof fields members d = record { id = linked_identity d.proto.name d; fields = map (member_place fields) members }
 
 -- Oneofs with their members in the order of their declaration; the first oneof is at the place.
-abbrev pub oneofs_from : List FieldRow → List (DefinitionRow FieldDescriptorProto) → ℕ → List (DefinitionRow OneofDescriptorProto) → List OneofRow
+abbrev pub oneofs_from : List FieldRow → List (DefinitionRow FieldDescriptorProto) → ℕ
+    → List (DefinitionRow OneofDescriptorProto)
+    → List OneofRow
 oneofs_from fields declared o [] = []
 oneofs_from fields declared o (d ∷ ds) = linked_oneof fields (belonging oneof_place declared o) d ∷ oneofs_from fields declared (o + 1) ds
 
@@ -220,7 +225,8 @@ linked_message all m =
 -- The first message is at the place.
 abbrev pub messages_from : Links → (extensions : List (DefinitionRow FieldDescriptorProto)) → ℕ → List FlatMessageRow → List MessageRow
 messages_from links extensions T [] = []
-messages_from links extensions T (m ∷ ms) = linked_message (fields_of_message links extensions T m) m ∷ messages_from links extensions (T + 1) ms
+messages_from links extensions T (m ∷ ms) = linked_message (fields_of_message links extensions T m) m
+    ∷ messages_from links extensions (T + 1) ms
 
 -- An enum is closed in proto2.
 abbrev pub linked_enum : FlatEnumRow → EnumRow

@@ -42,25 +42,32 @@ pub record KindsAndLabels : Type 0 where
 
 pub record PackedAndPresent : Type 0 where
   -- Without the option a list of numbers is packed in proto3 alone, and a text never.
-  pub packed_by_syntax : (f : FieldDescriptorProto) → f.options ≡ None → (linked_packed true f Repeated Int32 ≡ true) × (linked_packed false f Repeated Int32 ≡ false)
-  pub never_packed : (f : FieldDescriptorProto) → (linked_packed true f Repeated String ≡ false) × (linked_packed true f Optional Int32 ≡ false)
+  pub packed_by_syntax : (f : FieldDescriptorProto) → f.options ≡ None
+      → (linked_packed true f Repeated Int32 ≡ true) × (linked_packed false f Repeated Int32 ≡ false)
+  pub never_packed : (f : FieldDescriptorProto)
+      → (linked_packed true f Repeated String ≡ false) × (linked_packed true f Optional Int32 ≡ false)
   -- A plain proto3 number has no presence; in proto2, as an extension, as a message, or marked `optional` it has.
-  pub plain_number : (f : FieldDescriptorProto) → f.oneof_index ≡ None → f.proto3_optional ≡ None → linked_presence true false f Optional Int32 ≡ false
+  pub plain_number : (f : FieldDescriptorProto) → f.oneof_index ≡ None → f.proto3_optional ≡ None
+      → linked_presence true false f Optional Int32 ≡ false
   pub in_proto2 : (f : FieldDescriptorProto) → linked_presence false false f Required Int32 ≡ true
   pub as_extension : (f : FieldDescriptorProto) → linked_presence true true f Optional Int32 ≡ true
   pub of_message : (f : FieldDescriptorProto) → linked_presence true false f Optional (Message 0) ≡ true
   pub as_member : (f : FieldDescriptorProto) → f.oneof_index ≡ Some (pos 0) → linked_presence true false f Optional Int32 ≡ true
-  pub marked : (f : FieldDescriptorProto) → f.oneof_index ≡ None → f.proto3_optional ≡ Some true → linked_presence true false f Optional Int32 ≡ true
+  pub marked : (f : FieldDescriptorProto) → f.oneof_index ≡ None → f.proto3_optional ≡ Some true
+      → linked_presence true false f Optional Int32 ≡ true
   pub of_list : (f : FieldDescriptorProto) → linked_presence false true f Repeated Int32 ≡ false
 
 pub record Orders : Type 0 where
   -- Ascending, and of one number in the order that they had.
-  pub order : in_order (single 3 Int32 ∷ single 1 String ∷ single 2 Int32 ∷ single 1 Int32 ∷ []) ≡ single 1 String ∷ single 1 Int32 ∷ single 2 Int32 ∷ single 3 Int32 ∷ []
+  pub order : in_order (single 3 Int32 ∷ single 1 String ∷ single 2 Int32 ∷ single 1 Int32 ∷ [])
+      ≡ single 1 String ∷ single 1 Int32 ∷ single 2 Int32 ∷ single 3 Int32 ∷ []
   -- Those of the place 1.
   pub of_place : belonging place_in (Some (pos 1) ∷ None ∷ Some (pos 0) ∷ Some (pos 1) ∷ []) 1 ≡ Some (pos 1) ∷ Some (pos 1) ∷ []
 
 pub record NamesInJson : Type 0 where
   pub written : (d : DefinitionRow FieldDescriptorProto) (s : Text Global) → d.proto.json_name ≡ Some s → json_name false d ≡ string_bytes s
-  pub unwritten : (d : DefinitionRow FieldDescriptorProto) (s : Text Global) → d.proto.json_name ≡ None → d.proto.name ≡ Some s → json_name false d ≡ string_bytes s
+  pub unwritten : (d : DefinitionRow FieldDescriptorProto) (s : Text Global) → d.proto.json_name ≡ None
+      → d.proto.name ≡ Some s
+      → json_name false d ≡ string_bytes s
   -- The extension x that is declared in the message M of the package p.
   pub extension : (d : DefinitionRow FieldDescriptorProto) → d.full_name ≡ codes "p.M.x" → json_name true d ≡ codes "[p.M.x]"

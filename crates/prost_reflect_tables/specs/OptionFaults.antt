@@ -27,4 +27,5 @@ option_bad number (Some bytes) = not (bytes_suit_option number bytes.items)
 
 -- Of a message `map_entry` is read, number 7, and of a field or extension `packed`, number 2.
 abbrev pub bad_options : FlatRows → Bool
-bad_options rows = list_any (λ m. option_bad 7 m.definition.proto.options) rows.messages || any_field (λ d. option_bad 2 d.proto.options) rows
+bad_options rows = list_any (λ m. option_bad 7 m.definition.proto.options) rows.messages
+    || any_field (λ d. option_bad 2 d.proto.options) rows

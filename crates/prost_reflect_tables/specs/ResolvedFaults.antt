@@ -12,7 +12,8 @@ abbrev pub unfound : Option (String Global) → Option ℕ → Bool
 unfound text place = is_some text && is_none place
 
 abbrev pub type_unfound : ResolvedRow → Bool
-type_unfound f = (is_message_type f.definition.proto.type_ && unfound f.definition.proto.type_name f.message) || (is_enum_type f.definition.proto.type_ && unfound f.definition.proto.type_name f.enumeration)
+type_unfound f = (is_message_type f.definition.proto.type_ && unfound f.definition.proto.type_name f.message)
+    || (is_enum_type f.definition.proto.type_ && unfound f.definition.proto.type_name f.enumeration)
 
 abbrev pub extendee_unfound : ResolvedRow → Bool
 extendee_unfound f = unfound f.definition.proto.extendee f.extendee
@@ -35,7 +36,8 @@ abbrev pub wrongly_found : FlatRows → ResolvedRow → Bool
 wrongly_found rows f = found_of_entry rows f && not (is_code 3 f.definition.proto.label && is_code 11 f.definition.proto.type_)
 
 abbrev pub misplaced : ResolvedRow → Bool
-misplaced f = is_some f.definition.proto.default_value && (is_code 3 f.definition.proto.label || is_message_type f.definition.proto.type_ || f.definition.is_proto3)
+misplaced f = is_some f.definition.proto.default_value
+    && (is_code 3 f.definition.proto.label || is_message_type f.definition.proto.type_ || f.definition.is_proto3)
 
 abbrev pub unread : ResolvedRow → Bool
 unread f = is_some f.definition.proto.default_value && is_none f.default

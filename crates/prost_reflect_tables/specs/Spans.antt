@@ -35,7 +35,8 @@ ranges_of m = option_map (λ m. m.definition.proto.extension_range) m
 
 -- Spans of a message at its place.
 abbrev pub AreSpansAt : FlatRows → ℕ × Vec (ℕ × ℕ) Global → Type 0
-AreSpansAt rows own = (ranges : List ExtensionRange) → ranges_of (slice_get rows.messages own.0) ≡ Some ranges → AreSpansOf own.1.items ranges
+AreSpansAt rows own = (ranges : List ExtensionRange) → ranges_of (slice_get rows.messages own.0) ≡ Some ranges
+    → AreSpansOf own.1.items ranges
 
 -- The same for each of some messages.
 abbrev pub AreSpansIn : FlatRows → List (ℕ × Vec (ℕ × ℕ) Global) → Type 0

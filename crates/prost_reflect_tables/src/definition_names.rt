@@ -63,7 +63,8 @@ impl DefinitionNames {
 impl Clone for DefinitionNames {
     ghost use Rattle.std.specs.Prelude.{◌≡◌};
 
-    ghost is_clone = { λ names copied. (string_bytes copied.text ≡ string_bytes names.text) × (copied.end ≡ names.end) × (copied.start ≡ names.start) };
+    ghost is_clone = { λ names copied. (string_bytes copied.text ≡ string_bytes names.text) × (copied.end ≡ names.end)
+        × (copied.start ≡ names.start) };
 
     /// # Errors
     ///

@@ -26,7 +26,9 @@ impl EnumTable {
 impl MessageTable {
     /// Of the type of a map's entries, the field at a place, which is the key or the value; the map itself where there is none.
     pub fn part_or<'a>(&'a self, place: usize, map: &'a FieldTable) -> &'a FieldTable
-        ensures { (enums : List EnumRow) → own_type enums (field_row result.now) ≡ type_or enums (field_row map.now) (slice_get (message_row self.now).fields place) }
+        ensures { (enums : List EnumRow)
+            → own_type enums (field_row result.now)
+            ≡ type_or enums (field_row map.now) (slice_get (message_row self.now).fields place) }
     {
         match self.fields.get(place) {
             Some(part) => part,

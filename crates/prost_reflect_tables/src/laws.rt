@@ -9,7 +9,8 @@ use prost_reflect_types::FileDescriptorProto;
 
 /// Lists of files are equal by `==` exactly if both have as many files, and their contents are equal one by one.
 pub fn files_equality()
-    ensures { (a : List FileDescriptorProto) (b : List FileDescriptorProto) → IsTrue (pointwise (⟦<FileDescriptorProto as PartialEq>⟧.eq) a b) ↔ SameContents a b }
+    ensures { (a : List FileDescriptorProto) (b : List FileDescriptorProto)
+        → IsTrue (pointwise (⟦<FileDescriptorProto as PartialEq>⟧.eq) a b) ↔ SameContents a b }
 {}
 
 /// Files whose contents are equal, one by one, give equal tables, pass the same checks, and are refused for the same reasons,

@@ -31,7 +31,8 @@ impl Tables {
     pub fn field_table(&self, message: usize, number: u32) -> Option<&FieldTable>
         requires { message < length (rows_of self.now).messages }
         ensures row { option_map (λ field. field_row field.now) result ≡ row_of (fields_at (rows_of self.now) message) number }
-        ensures field { option_map (λ field. schema_field (rows_of self.now) (field_row field.now)) result ≡ field_of (known (schema_of self.now) message) number }
+        ensures field { option_map (λ field. schema_field (rows_of self.now) (field_row field.now)) result
+            ≡ field_of (known (schema_of self.now) message) number }
     {
         let fields = self.field_tables(message);
         match place_among(fields, number) {

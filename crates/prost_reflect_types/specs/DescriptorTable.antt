@@ -12,12 +12,21 @@ abbrev pub rows : RecordType → List (ℕ × FieldKind)
 rows types.FileSet = (1, Records types.File) ∷ []
 rows types.File = (1, Text) ∷ (2, Text) ∷ (3, Texts) ∷ (4, Records types.Message) ∷ (5, Records types.Enum) ∷ (6, Records types.Service)
     ∷ (7, Records types.Field) ∷ (8, Bytes) ∷ (9, Bytes) ∷ (10, Numbers) ∷ (11, Numbers) ∷ (12, Text) ∷ []
-rows types.Message = (1, Text) ∷ (2, Records types.Field) ∷ (3, Records types.Message) ∷ (4, Records types.Enum) ∷ (5, Records types.ExtensionRange)
-    ∷ (6, Records types.Field) ∷ (7, Bytes) ∷ (8, Records types.Oneof) ∷ (9, Records types.ReservedRange) ∷ (10, Texts) ∷ []
+rows types.Message = (1, Text) ∷ (2, Records types.Field) ∷ (3, Records types.Message) ∷ (4, Records types.Enum)
+    ∷ (5, Records types.ExtensionRange)
+    ∷ (6, Records types.Field)
+    ∷ (7, Bytes)
+    ∷ (8, Records types.Oneof)
+    ∷ (9, Records types.ReservedRange)
+    ∷ (10, Texts)
+    ∷ []
 rows types.ExtensionRange = (1, Number) ∷ (2, Number) ∷ (3, Bytes) ∷ []
 rows types.ReservedRange = (1, Number) ∷ (2, Number) ∷ []
-rows types.Field = (1, Text) ∷ (2, Text) ∷ (3, Number) ∷ (4, Number) ∷ (5, Number) ∷ (6, Text) ∷ (7, Text) ∷ (8, Bytes) ∷ (9, Number) ∷ (10, Text)
-    ∷ (17, Flag) ∷ []
+rows types.Field = (1, Text) ∷ (2, Text) ∷ (3, Number) ∷ (4, Number) ∷ (5, Number) ∷ (6, Text) ∷ (7, Text) ∷ (8, Bytes)
+    ∷ (9, Number)
+    ∷ (10, Text)
+    ∷ (17, Flag)
+    ∷ []
 rows types.Oneof = (1, Text) ∷ (2, Bytes) ∷ []
 rows types.Enum = (1, Text) ∷ (2, Records types.EnumValue) ∷ (3, Bytes) ∷ (4, Records types.EnumReservedRange) ∷ (5, Texts) ∷ []
 rows types.EnumReservedRange = (1, Number) ∷ (2, Number) ∷ []
@@ -27,8 +36,14 @@ rows types.Method = (1, Text) ∷ (2, Text) ∷ (3, Text) ∷ (4, Bytes) ∷ (5,
 
 -- All of them; each has its place in this list.
 abbrev pub record_types : List RecordType
-record_types = types.FileSet ∷ types.File ∷ types.Message ∷ types.ExtensionRange ∷ types.ReservedRange ∷ types.Field ∷ types.Oneof ∷ types.Enum
-    ∷ types.EnumReservedRange ∷ types.EnumValue ∷ types.Service ∷ types.Method ∷ []
+record_types = types.FileSet ∷ types.File ∷ types.Message ∷ types.ExtensionRange ∷ types.ReservedRange ∷ types.Field
+    ∷ types.Oneof
+    ∷ types.Enum
+    ∷ types.EnumReservedRange
+    ∷ types.EnumValue
+    ∷ types.Service
+    ∷ types.Method
+    ∷ []
 
 abbrev pub type_place : RecordType → ℕ
 type_place types.FileSet = 0

@@ -123,7 +123,9 @@ impl Comparison {
     }
 
     fn records<P: OwnedRecord>(&mut self, a: &Vec<P>, b: &Vec<P>)
-        ensures { IsTrue self.new.equal ↔ (IsTrue self.old.equal × (of_records (map P.content a.now.items) ≡ of_records (map P.content b.now.items))) }
+        ensures { IsTrue self.new.equal
+            ↔ (IsTrue self.old.equal
+            × (of_records (map P.content a.now.items) ≡ of_records (map P.content b.now.items))) }
     {
         if self.equal {
             self.equal = equal_records(a, b);
@@ -337,7 +339,8 @@ fn equal_message(a: &DescriptorProto, b: &DescriptorProto) -> bool
 
 #[cycle(message_equality)]
 fn compare_messages(all: &mut Comparison, a: &Vec<DescriptorProto>, b: &Vec<DescriptorProto>)
-    ensures { IsTrue all.new.equal ↔ (IsTrue all.old.equal × (of_records (map of_message a.now.items) ≡ of_records (map of_message b.now.items))) }
+    ensures { IsTrue all.new.equal
+        ↔ (IsTrue all.old.equal × (of_records (map of_message a.now.items) ≡ of_records (map of_message b.now.items))) }
 {
     if all.equal {
         all.equal = equal_messages(a, b);

@@ -20,7 +20,9 @@ EachGiven steps Given it = EachRunFrom steps it (λ p. AllItems p (λ r. IfOk r 
 module _ {P D : Type 0} {g : Ghosts D P} where
   -- One call of `next`.
   abbrev pub descriptor_steps : Descriptors P D g → Option (Result D AllocError) → Descriptors P D g → Type 0
-  descriptor_steps old given new = GivesNext (g.stands old.parent.now) (places_left old.places) given (places_left new.places) × (new.parent ≡ old.parent)
+  descriptor_steps old given new = GivesNext (g.stands old.parent.now) (places_left old.places) given
+      (places_left new.places)
+      × (new.parent ≡ old.parent)
 
   -- Each descriptor that is given has the property.
   abbrev pub GivesEach : (D → Type 0) → Descriptors P D g → Type 0

@@ -56,7 +56,9 @@ form_test (MapFrom t) (MapFrom u) = value_type_test t u
 form_test c d = false
 
 abbrev pub field_test : Field → Field → Bool
-field_test f g = nat_eq f.number g.number && (beq f.is_extension g.is_extension && (form_test f.form g.form && (value_type_test f.value_type g.value_type && option_eq nat_eq f.oneof g.oneof)))
+field_test f g = nat_eq f.number g.number
+    && (beq f.is_extension g.is_extension
+    && (form_test f.form g.form && (value_type_test f.value_type g.value_type && option_eq nat_eq f.oneof g.oneof)))
 
 abbrev pub message_type_test : MessageType → MessageType → Bool
 message_type_test m n = beq m.is_entry n.is_entry && pointwise field_test m.known n.known

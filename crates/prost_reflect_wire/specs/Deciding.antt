@@ -10,7 +10,9 @@ use Rattle.std.proofs.lemmas.Slice.Eq.{slice_eq-Decides}
 use Rattle.prost_reflect_wire.specs.Scalar.{Scalar, Boolean, I32, I64, U32, U64, F32, F64, Text, Bytes, EnumNumber, scalar_eq}
 
 -- A test that holds of equals alone, and of each value and itself.
-pub decided : {K : Type 0} (E : K → K → Bool) → ((x y : K) → E x y ≡ true → x ≡ y) → ((x : K) → E x x ≡ true) → (x y : K) → Decides (E x y) (x ≡ y)
+pub decided : {K : Type 0} (E : K → K → Bool) → ((x y : K) → E x y ≡ true → x ≡ y) → ((x : K) → E x x ≡ true)
+    → (x y : K)
+    → Decides (E x y) (x ≡ y)
 decided {K} E same itself x y = (same x y, λ e. ap (λ (z : K). E z y) e ∙ itself y)
 
 -- A test that decides equality is an equivalence.
@@ -23,10 +25,12 @@ equivalence {K} E decides = record {
 
 -- LISTS AND OPTIONS
 
-pub list_decides : {A : Type 0} {E : A → A → Bool} → ((a b : A) → Decides (E a b) (a ≡ b)) → (xs ys : List A) → Decides (pointwise E xs ys) (xs ≡ ys)
+pub list_decides : {A : Type 0} {E : A → A → Bool} → ((a b : A) → Decides (E a b) (a ≡ b)) → (xs ys : List A)
+    → Decides (pointwise E xs ys) (xs ≡ ys)
 list_decides {E} each xs ys = slice_eq-Decides each xs ys (pointwise E xs ys) refl
 
-pub option_decides : {A : Type 0} {E : A → A → Bool} → ((a b : A) → Decides (E a b) (a ≡ b)) → (o p : Option A) → Decides (option_eq E o p) (o ≡ p)
+pub option_decides : {A : Type 0} {E : A → A → Bool} → ((a b : A) → Decides (E a b) (a ≡ b)) → (o p : Option A)
+    → Decides (option_eq E o p) (o ≡ p)
 option_decides {A} {E} each = decided (option_eq E) same itself
   where
     same : (o p : Option A) → option_eq E o p ≡ true → o ≡ p

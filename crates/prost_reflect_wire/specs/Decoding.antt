@@ -52,8 +52,10 @@ pub record Step (levels n : ℕ) (w : WireType) (old new : Content) (bytes rest 
 
 -- Wherever such a key comes in front of the bytes, in a message or in an open group that it does not end, the fault is there.
 abbrev pub StandsBehindKey : Content → ℕ → ℕ → WireType → DecodeError → List ℕ → Type 0
-StandsBehindKey c levels n w e rest = (bytes : List ℕ) (open_group : Option ℕ) → KeyFront n w bytes rest → (w ≡ wires.EndGroup → open_group ≢ Some n)
-    → Stands (schema_of c) e (record { bytes = bytes; inside = OfType (type_of c); levels = levels; open_group = open_group })
+StandsBehindKey c levels n w e rest = (bytes : List ℕ) (open_group : Option ℕ) → KeyFront n w bytes rest
+    → (w ≡ wires.EndGroup → open_group ≢ Some n)
+    → Stands (schema_of c) e
+    (record { bytes = bytes; inside = OfType (type_of c); levels = levels; open_group = open_group })
 
 -- READING INTO A GROUP
 
@@ -91,7 +93,8 @@ ScalarFault kind w errors.Truncated bytes = PayloadEnds w bytes
 ScalarFault kind w errors.Varint bytes = PayloadPasses w bytes
 ScalarFault kind w errors.WireType bytes = (w ≢ wires.EndGroup) × (same_wire w (kind_wire kind) ≡ false)
 ScalarFault kind w errors.EndGroup bytes = w ≡ wires.EndGroup
-ScalarFault kind w errors.Utf8 bytes = (w ≡ wires.LengthDelimited) × (kind ≡ StringKind) × ((body rest : List ℕ) × DelimitedFront body bytes rest × (is_utf8 body ≡ false))
+ScalarFault kind w errors.Utf8 bytes = (w ≡ wires.LengthDelimited) × (kind ≡ StringKind)
+    × ((body rest : List ℕ) × DelimitedFront body bytes rest × (is_utf8 body ≡ false))
 ScalarFault kind w e bytes = ⊥
 
 -- LISTS OF SCALARS

@@ -47,4 +47,7 @@ ScalarEntryTo levels key value_kind k v bytes rest = EntryTo nothing_inside (emp
 
 -- The bytes have the fault, as the body of any entry of these kinds.
 abbrev pub StandsInEntry : (levels : ℕ) (key value_kind : ScalarKind) → DecodeError → List ℕ → Type 0
-StandsInEntry levels key value_kind e bytes = (schema : Schema) (key_type value_type : ValueType) → key_type.kind ≡ ScalarOf key → value_type.kind ≡ ScalarOf value_kind → Stands schema e (EntryPlace key_type value_type levels bytes)
+StandsInEntry levels key value_kind e bytes = (schema : Schema) (key_type value_type : ValueType)
+    → key_type.kind ≡ ScalarOf key
+    → value_type.kind ≡ ScalarOf value_kind
+    → Stands schema e (EntryPlace key_type value_type levels bytes)

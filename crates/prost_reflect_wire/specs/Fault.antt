@@ -88,16 +88,21 @@ pub record NextField (schema : Schema) (place : Place) (Then : Field → WireTyp
 pub data ElementFault (w : WireType) : DecodeError → List ℕ → Type 0 where
   ElementEnds : {b : ℕ} {bytes : List ℕ} → PayloadEnds w (b ∷ bytes) → ElementFault w errors.Truncated (b ∷ bytes)
   ElementPasses : {bytes : List ℕ} → PayloadPasses w bytes → ElementFault w errors.Varint bytes
-  BehindElement : {e : DecodeError} {bytes : List ℕ} (p : Plain) (rest : List ℕ) → PlainFront p bytes rest → plain_wire p ≡ w → ElementFault w e rest → ElementFault w e bytes
+  BehindElement : {e : DecodeError} {bytes : List ℕ} (p : Plain) (rest : List ℕ) → PlainFront p bytes rest
+      → plain_wire p ≡ w
+      → ElementFault w e rest
+      → ElementFault w e bytes
 
 -- AT A PLACE
 
 abbrev pub TextNext : Field → WireType → List ℕ → Type 0
-TextNext f w rest = (w ≡ wires.LengthDelimited) × (is_map f.form ≡ false) × (f.value_type.kind ≡ ScalarOf StringKind) × ((body after : List ℕ) × DelimitedFront body rest after × (is_utf8 body ≡ false))
+TextNext f w rest = (w ≡ wires.LengthDelimited) × (is_map f.form ≡ false) × (f.value_type.kind ≡ ScalarOf StringKind)
+    × ((body after : List ℕ) × DelimitedFront body rest after × (is_utf8 body ≡ false))
 
 abbrev pub PackedNext : DecodeError → Field → WireType → List ℕ → Type 0
 PackedNext e f w rest = (w ≡ wires.LengthDelimited) × ((packed : Bool) × (f.form ≡ Repeated packed))
-    × ((kind : ScalarKind) × (f.value_type.kind ≡ ScalarOf kind) × (is_packable kind ≡ true) × ((body after : List ℕ) × DelimitedFront body rest after × ElementFault (kind_wire kind) e body))
+    × ((kind : ScalarKind) × (f.value_type.kind ≡ ScalarOf kind) × (is_packable kind ≡ true)
+    × ((body after : List ℕ) × DelimitedFront body rest after × ElementFault (kind_wire kind) e body))
 
 abbrev pub Comes : Schema → DecodeError → Place → Type 0
 Comes schema errors.Truncated place = ((place.bytes ≢ []) × VarintEnds place.bytes) ⊎ (((place.bytes ≡ []) × (place.open_group ≢ None)) ⊎ (Next place (λ n w rest. PayloadEnds w rest) ⊎ NextField schema place (PackedNext errors.Truncated)))
@@ -132,9 +137,14 @@ pub data Stands (schema : Schema) : DecodeError → Place → Type 0 where
       → Stands schema e (record { bytes = rest; inside = OfNothing; levels = k; open_group = Some n }) → Stands schema e place
   -- in a map's entry, with the same levels.
   InEntry : {e : DecodeError} {place : Place} (n : ℕ) (f : Field) (key : ValueType) (body rest after : List ℕ)
-      → field_at schema place.inside n ≡ Some f → f.form ≡ MapFrom key → has_level place.levels f.value_type.kind ≡ true
-      → KeyFront n wires.LengthDelimited place.bytes rest → DelimitedFront body rest after
-      → Stands schema e (record { bytes = body; inside = OfEntry key f.value_type; levels = place.levels; open_group = None }) → Stands schema e place
+      → field_at schema place.inside n ≡ Some f
+      → f.form ≡ MapFrom key
+      → has_level place.levels f.value_type.kind ≡ true
+      → KeyFront n wires.LengthDelimited place.bytes rest
+      → DelimitedFront body rest after
+      → Stands schema e
+      (record { bytes = body; inside = OfEntry key f.value_type; levels = place.levels; open_group = None })
+      → Stands schema e place
 
 -- Where a message of a type is read.
 abbrev pub StandsInMessage : Schema → ℕ → ℕ → DecodeError → List ℕ → Type 0

@@ -137,7 +137,8 @@ has_level levels kind = not (is_message kind) || nat_lt 0 levels
 abbrev pub field_allowed : ℕ → AllowsInside → FieldForm → ValueType → Payload → Bool
 field_allowed levels inner Singular value_type p = one_allowed inner value_type.kind p
 field_allowed levels inner (Repeated packed) value_type p = one_allowed inner value_type.kind p || packed_allowed value_type.kind p
-field_allowed levels inner (MapFrom key) value_type p = is_len p && has_level levels value_type.kind && passes (body p) (list_all (in_entry_allowed levels inner key value_type))
+field_allowed levels inner (MapFrom key) value_type p = is_len p && has_level levels value_type.kind
+    && passes (body p) (list_all (in_entry_allowed levels inner key value_type))
 
 abbrev pub record_allowed : ℕ → AllowsInside → List Field → Record → Bool
 record_allowed levels inner fields r = elim (field_of fields r.number) [

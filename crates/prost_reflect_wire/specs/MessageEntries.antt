@@ -32,9 +32,16 @@ pub record NestedValueRead (k : ℕ) (w : WireType) (old new : Content) (bytes r
 
 -- Wherever such a key comes in front of the bytes, of a field of messages of the type, and ends no group, the fault is there.
 abbrev pub NestedValueFault : Schema → (levels n U : ℕ) → WireType → DecodeError → List ℕ → Type 0
-NestedValueFault schema levels n U w e rest = (place : Place) (f : Field) → place.levels ≡ levels → field_at schema place.inside n ≡ Some f → is_map f.form ≡ false → f.value_type.kind ≡ MessageOf U
-    → KeyFront n w place.bytes rest → (w ≡ wires.EndGroup → place.open_group ≢ Some n) → Stands schema e place
+NestedValueFault schema levels n U w e rest = (place : Place) (f : Field) → place.levels ≡ levels
+    → field_at schema place.inside n ≡ Some f
+    → is_map f.form ≡ false
+    → f.value_type.kind ≡ MessageOf U
+    → KeyFront n w place.bytes rest
+    → (w ≡ wires.EndGroup → place.open_group ≢ Some n)
+    → Stands schema e place
 
 -- The bytes have the fault, as the body of any entry of such a map.
 abbrev pub StandsInNestedEntry : Schema → (levels U : ℕ) → ScalarKind → DecodeError → List ℕ → Type 0
-StandsInNestedEntry schema levels U key e bytes = (key_type value_type : ValueType) → key_type.kind ≡ ScalarOf key → value_type.kind ≡ MessageOf U → Stands schema e (EntryPlace key_type value_type levels bytes)
+StandsInNestedEntry schema levels U key e bytes = (key_type value_type : ValueType) → key_type.kind ≡ ScalarOf key
+    → value_type.kind ≡ MessageOf U
+    → Stands schema e (EntryPlace key_type value_type levels bytes)

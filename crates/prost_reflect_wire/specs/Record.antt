@@ -89,8 +89,11 @@ abbrev pub Spells : Records → List ℕ → Type 0
 Spells NoRecords bytes = bytes ≡ []
 Spells (PlainRecord n p rest) bytes = (key body after : List ℕ)
     × Key n (plain_wire p) key × SpellsPlain p body × Spells rest after × (bytes ≡ key ++ (body ++ after))
-Spells (GroupRecord n inside rest) bytes = (key body stop after : List ℕ)
-    × Key n wires.StartGroup key × Spells inside body × Key n wires.EndGroup stop × Spells rest after × (bytes ≡ key ++ (body ++ (stop ++ after)))
+Spells (GroupRecord n inside rest) bytes = (key body stop after : List ℕ) × Key n wires.StartGroup key
+    × Spells inside body
+    × Key n wires.EndGroup stop
+    × Spells rest after
+    × (bytes ≡ key ++ (body ++ (stop ++ after)))
 
 -- READING
 
@@ -168,7 +171,8 @@ short_plain (Fix32 bytes) = bytes
 abbrev pub short_body : Records → List ℕ
 short_body NoRecords = []
 short_body (PlainRecord n p rest) = short_key n (plain_wire p) ++ (short_plain p ++ short_body rest)
-short_body (GroupRecord n inside rest) = short_key n wires.StartGroup ++ (short_body inside ++ (short_key n wires.EndGroup ++ short_body rest))
+short_body (GroupRecord n inside rest) = short_key n wires.StartGroup
+    ++ (short_body inside ++ (short_key n wires.EndGroup ++ short_body rest))
 
 -- Behind the key of a number.
 abbrev pub short_payload : ℕ → Payload → List ℕ

@@ -33,7 +33,9 @@ pub trait Sink {
 
     /// Adds in front the length of what was added since it had so many bytes.
     fn prepend_len_since(&mut self, before: usize)
-        ensures { (start mid : Self) (done body : List ℕ) → added start mid done → held mid ≡ before → added mid self.old body → added start self.new (short (length body) ++ (body ++ done)) };
+        ensures { (start mid : Self) (done body : List ℕ) → added start mid done → held mid ≡ before
+            → added mid self.old body
+            → added start self.new (short (length body) ++ (body ++ done)) };
 }
 
 /// Bytes from the last on, and whether all of them were taken.
@@ -76,10 +78,17 @@ impl ByteSink {
     ///
     /// `TooLong` if the bytes are more than the greatest `usize`, `OutOfMemory` if memory runs out; the output stays.
     pub fn append_to(self, out: &mut Vec<u8>) -> Result<(), EncodeError>
-        ensures ok { OnOk result ((start : ByteSink) (front : List ℕ) → HasNoBytes start → Adds written_since start self front → out.new.items ≡ out.old.items ++ front) }
-        ensures fits { OnOk result ((start : ByteSink) (front : List ℕ) → HasNoBytes start → Adds written_since start self front → length front < 2 ^ 64) }
+        ensures ok { OnOk result
+            ((start : ByteSink) (front : List ℕ) → HasNoBytes start → Adds written_since start self front
+            → out.new.items ≡ out.old.items ++ front) }
+        ensures fits { OnOk result
+            ((start : ByteSink) (front : List ℕ) → HasNoBytes start → Adds written_since start self front
+            → length front < 2 ^ 64) }
         ensures err { OnErr result (out.new.items ≡ out.old.items) }
-        ensures too_long { IfErr result (λ e. e ≡ EncodeError.TooLong → (start : ByteSink) (front : List ℕ) → HasNoBytes start → Adds written_since start self front → 2 ^ 64 ≤ length front) }
+        ensures too_long { IfErr result
+            (λ e. e ≡ EncodeError.TooLong → (start : ByteSink) (front : List ℕ) → HasNoBytes start
+            → Adds written_since start self front
+            → 2 ^ 64 ≤ length front) }
     {
         self.outcome?;
         self.blocks.append_to(out)?;
@@ -101,7 +110,8 @@ impl LengthSink {
 
     /// How many bytes were added; `None` if they are more than a `usize` counts.
     pub fn total(self) -> Option<usize>
-        ensures { (start : LengthSink) (front : List ℕ) → HasNoCount start → Adds counted_since start self front → SomeIff result (length front < 2 ^ 64) (length front) }
+        ensures { (start : LengthSink) (front : List ℕ) → HasNoCount start → Adds counted_since start self front
+            → SomeIff result (length front < 2 ^ 64) (length front) }
     {
         self.count
     }

@@ -44,7 +44,9 @@ fn edit_bytes(
     path: &str,
     text: &str,
 ) -> Result<String, Refusal>
-    ensures edited { IfOk result (λ line. IsEditedIn (pool_rows older.now.pool.inner) (type_named older.now) bytes.now path.now text.now (string_bytes line)) }
+    ensures edited { IfOk result
+        (λ line. IsEditedIn (pool_rows older.now.pool.inner) (type_named older.now) bytes.now path.now text.now
+        (string_bytes line)) }
     ensures refused { IfErr result (RefusesEditIn (pool_rows older.now.pool.inner) (type_named older.now) bytes.now path.now text.now) }
 {
     let (numbers, value) = change(alloc, older, path, text)?;
@@ -61,7 +63,9 @@ fn change(
     path: &str,
     text: &str,
 ) -> Result<(Vec<u32>, Value), Refusal>
-    ensures change { IfOk result (λ p. IsChange (pool_rows older.now.pool.inner) (type_named older.now) path.now text.now p.0.items (value_of p.1)) }
+    ensures change { IfOk result
+        (λ p. IsChange (pool_rows older.now.pool.inner) (type_named older.now) path.now text.now p.0.items
+        (value_of p.1)) }
     ensures refused { IfErr result (RefusesChange (pool_rows older.now.pool.inner) (type_named older.now) path.now text.now) }
 {
     let spelled = numbers_of(alloc, path)?;

@@ -59,7 +59,9 @@ pub fn value_for(
     field: &FieldDescriptor,
     text: &str,
 ) -> Result<Option<Value>, Refusal>
-    ensures value { IfOk result (λ value. option_map value_of value ≡ and_then (named.row_at field.now) (λ f. text_value (pool_rows field.now.message.pool.inner) f text.now)) }
+    ensures value { IfOk result
+        (λ value. option_map value_of value
+        ≡ and_then (named.row_at field.now) (λ f. text_value (pool_rows field.now.message.pool.inner) f text.now)) }
     ensures refused { IfErr result (λ refusal. (refusal ≡ refusals.ValueUnread) ⊎ (refusal ≡ refusals.Memory)) }
 {
     let kind = field.kind()?;

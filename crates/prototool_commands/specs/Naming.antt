@@ -179,7 +179,8 @@ abbrev pub IsInside : LinkedPool → Option ℕ → Option MessageDescriptor →
 IsInside pool T found = (option_map (λ m. m.index) found ≡ T) × IfSome found (λ m. m.pool.inner.value ≡ pool)
 
 abbrev pub HasInside : Kind → Option MessageDescriptor → Type 0
-HasInside kind found = (pool : DescriptorPool) → IsAmong pool kind → IsInside pool.inner.value (kind_inside (pool_rows pool.inner.value) (table_kind kind)) found
+HasInside kind found = (pool : DescriptorPool) → IsAmong pool kind
+    → IsInside pool.inner.value (kind_inside (pool_rows pool.inner.value) (table_kind kind)) found
 
 -- What is found of a row.
 pub record IsFoundOf (pool : LinkedPool) (row : Option FieldRow) (found : Found) : Type 0 where

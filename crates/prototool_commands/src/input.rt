@@ -36,7 +36,8 @@ pub fn pool_of<R: Files + AllocGlobal>(rt: &R, set: &str) -> Result<DescriptorPo
 ///
 /// `Name` if no message type has the name, or `Memory`.
 pub fn message_type(pool: &DescriptorPool, name: &str) -> Result<MessageDescriptor, Refusal>
-    ensures named { IfOk result (λ message_type. message_place (pool_rows message_type.pool.inner.value) name.now ≡ Some message_type.index) }
+    ensures named { IfOk result
+        (λ message_type. message_place (pool_rows message_type.pool.inner.value) name.now ≡ Some message_type.index) }
     ensures pool { IfOk result (λ message_type. message_type.pool.inner.value ≡ pool.now.inner.value) }
     ensures refused { IfErr result (λ refusal. is_path refusal ≡ false) }
 {

@@ -52,7 +52,9 @@ fn redact_type<R: Files + Input + AllocGlobal>(
     paths: &[String],
     source: Source<'_>,
 ) -> Result<Vec<u8>, Refusal>
-    ensures redacted { IfOk result (λ output. IsRedaction descriptor.pool.inner.value descriptor.index (map string_bytes paths.now) source.entry output.items) }
+    ensures redacted { IfOk result
+        (λ output. IsRedaction descriptor.pool.inner.value descriptor.index (map string_bytes paths.now) source.entry
+        output.items) }
     ensures refused { IfErr result (RefusesRedaction descriptor.pool.inner.value descriptor.index (map string_bytes paths.now)) }
 {
     let alloc = rt.alloc();
@@ -72,7 +74,9 @@ fn all_numbers(
     descriptor: &MessageDescriptor,
     paths: &[String],
 ) -> Result<Vec<Vec<u32>>, Refusal>
-    ensures led { IfOk result (λ all. ArePathsTo descriptor.now.pool.inner.value descriptor.now.index (map string_bytes paths.now) (map (λ numbers. numbers.items) all.items)) }
+    ensures led { IfOk result
+        (λ all. ArePathsTo descriptor.now.pool.inner.value descriptor.now.index (map string_bytes paths.now)
+        (map (λ numbers. numbers.items) all.items)) }
     ensures refused { IfErr result (RefusesPaths descriptor.now.pool.inner.value descriptor.now.index (map string_bytes paths.now)) }
 {
     let mut all = Vec::new(alloc);
@@ -119,7 +123,9 @@ fn redacted_or_place(
     paths: &[Vec<u32>],
     bytes: &[u8],
 ) -> Result<Vec<u8>, Refusal>
-    ensures redacted { IfOk result (λ written. IsRedacted (schema_named descriptor) (type_named descriptor) (map (λ path. path.items) paths.now) bytes.now written.items) }
+    ensures redacted { IfOk result
+        (λ written. IsRedacted (schema_named descriptor) (type_named descriptor) (map (λ path. path.items) paths.now)
+        bytes.now written.items) }
     ensures refused { IfErr result (λ refusal. is_path refusal ≡ false) }
 {
     let of_type = descriptor.clone()?;
@@ -142,8 +148,12 @@ pub fn redacted(
     bytes: &[u8],
 ) -> Result<Vec<u8>, Refusal>
     ensures nothing_left { IfOk result (λ _. NothingLeft (map (λ path. path.items) paths.now)) }
-    ensures refused { IfErr result (λ refusal. IsRefused (schema_named descriptor) (type_named descriptor) (map (λ path. path.items) paths.now) bytes.now refusal) }
-    ensures redacted { IfOk result (λ written. IsRedacted (schema_named descriptor) (type_named descriptor) (map (λ path. path.items) paths.now) bytes.now written.items) }
+    ensures refused { IfErr result
+        (λ refusal. IsRefused (schema_named descriptor) (type_named descriptor) (map (λ path. path.items) paths.now)
+        bytes.now refusal) }
+    ensures redacted { IfOk result
+        (λ written. IsRedacted (schema_named descriptor) (type_named descriptor) (map (λ path. path.items) paths.now)
+        bytes.now written.items) }
 {
     let mut message = DynamicMessage::decode(alloc, descriptor, bytes)?;
     clear_all(alloc, &mut message, paths)?;

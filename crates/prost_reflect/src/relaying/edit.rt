@@ -100,10 +100,14 @@ pub fn relay_with(
     value: Value,
 ) -> Result<Vec<u8>, RelayWithError>
     ensures first { IfSome (edit_refusal (schema_named older.now) (type_named older.now) path.now (value_of value)) (λ e. result ≡ Err e) }
-    ensures edited { IfOk result (λ written. IsEdited (schema_named older.now) (type_named older.now) bytes.now path.now (value_of value) written.items) }
+    ensures edited { IfOk result
+        (λ written. IsEdited (schema_named older.now) (type_named older.now) bytes.now path.now (value_of value)
+        written.items) }
     ensures refused { IfErr result (RefusesEdit (schema_named older.now) (type_named older.now) bytes.now path.now (value_of value)) }
     ensures older_accepts { OlderAccepts (schema_named older.now) (type_named older.now) bytes.now }
-    ensures passes { IfOk result (λ written. PassesEdit (schema_named older.now) (type_named older.now) bytes.now path.now (value_of value) written.items) }
+    ensures passes { IfOk result
+        (λ written. PassesEdit (schema_named older.now) (type_named older.now) bytes.now path.now (value_of value)
+        written.items) }
 {
     if let Some(refusal) = refusal_of(older, path, &value) {
         return Err(refusal);

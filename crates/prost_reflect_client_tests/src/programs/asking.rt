@@ -15,7 +15,8 @@ use std::borrow::Cow;
 /// Clears the field of a number. The message has that of another number where it had it.
 pub fn has_another_after_clear(message: &mut DynamicMessage, number: u32, other: u32) -> bool
     ensures before { other ≢ number → has_at other (content_of message.new) ≡ has_at other (content_of message.old) }
-    ensures result { other ≢ number → result ≡ (is_field_number (message_type_of message.old) other && has_at other (content_of message.old)) }
+    ensures result { other ≢ number
+        → result ≡ (is_field_number (message_type_of message.old) other && has_at other (content_of message.old)) }
 {
     message.clear_field_by_number(number);
     message.has_field_by_number(other)
@@ -28,8 +29,12 @@ pub fn has_another_after_set(
     value: Value,
     other: u32,
 ) -> Result<bool, ClientError>
-    ensures before { other ≢ number → are_siblings (known_of (message_type_of message.old)) number other ≡ false → IfOk result (λ _. has_at other (content_of message.new) ≡ has_at other (content_of message.old)) }
-    ensures result { other ≢ number → are_siblings (known_of (message_type_of message.old)) number other ≡ false → IfOk result (λ had. had ≡ (is_field_number (message_type_of message.old) other && has_at other (content_of message.old))) }
+    ensures before { other ≢ number → are_siblings (known_of (message_type_of message.old)) number other ≡ false
+        → IfOk result (λ _. has_at other (content_of message.new) ≡ has_at other (content_of message.old)) }
+    ensures result { other ≢ number → are_siblings (known_of (message_type_of message.old)) number other ≡ false
+        → IfOk result
+        (λ had. had
+        ≡ (is_field_number (message_type_of message.old) other && has_at other (content_of message.old))) }
 {
     message.try_set_field_by_number(number, value)?;
     Ok(message.has_field_by_number(other))
@@ -76,8 +81,10 @@ pub fn shown_after_set(
     other: u32,
 ) -> Result<Option<Cow<'_, Value>>, SetFieldError>
     ensures found { IfOk result (λ found. is_some found ≡ is_field_number (message_type_of message.old) other) }
-    ensures shown { other ≢ number → are_siblings (known_of (message_type_of message.old)) number other ≡ false → IfOk result (λ found. IfSome found (ShowsHeld message.old other)) }
-    ensures refused { IfErr result (RefusesFound (message_type_of message.old) (number_declared (message_type_of message.old) number) value) }
+    ensures shown { other ≢ number → are_siblings (known_of (message_type_of message.old)) number other ≡ false
+        → IfOk result (λ found. IfSome found (ShowsHeld message.old other)) }
+    ensures refused { IfErr result
+        (RefusesFound (message_type_of message.old) (number_declared (message_type_of message.old) number) value) }
 {
     message.try_set_field_by_number(number, value)?;
     Ok(value_shown(alloc, message, other)?)

@@ -24,7 +24,11 @@ fn sound_encoding(alloc: Global, message: &DynamicMessage) -> Result<Option<Vec<
 
 /// Whether two messages are of one type; if so and both are sound, their encodings are the same exactly if they hold the same.
 fn are_of_one_type(a: &DynamicMessage, b: &DynamicMessage) -> Result<bool, AllocError>
-    ensures { IfOk result (λ same. IsTrue same → WellStored (content_of a.now) → WellStored (content_of b.now) → length (encoded (kept (content_of a.now))) < 2 ^ 64 → (encoded (kept (content_of a.now)) ≡ encoded (kept (content_of b.now))) ↔ (kept (content_of a.now) ≡ kept (content_of b.now))) }
+    ensures { IfOk result
+        (λ same. IsTrue same → WellStored (content_of a.now) → WellStored (content_of b.now)
+        → length (encoded (kept (content_of a.now))) < 2 ^ 64
+        → (encoded (kept (content_of a.now)) ≡ encoded (kept (content_of b.now)))
+        ↔ (kept (content_of a.now) ≡ kept (content_of b.now))) }
 {
     let a_type = a.descriptor()?;
     let b_type = b.descriptor()?;

@@ -67,7 +67,9 @@ pub fn set_found_number(
     value: Value,
 ) -> Result<Option<bool>, AllocError>
     ensures found { IfOk result (λ answer. IfSome answer (λ _. is_field_number (message_type_of message.old) number ≡ true)) }
-    ensures missing { IfOk result (λ answer. IfNone answer ((field : FieldDescriptor) → DescribesField (message_type_of message.old) number field → ⊥)) }
+    ensures missing { IfOk result
+        (λ answer. IfNone answer
+        ((field : FieldDescriptor) → DescribesField (message_type_of message.old) number field → ⊥)) }
     ensures fits { IfOk result (λ answer. IfSome answer (λ fits. fits ≡ takes_at (message_type_of message.old) number value)) }
     ensures sets { IfOk result (λ answer. IfSome answer (λ fits. IsTrue fits → Sets (Some number) value message.old message.new)) }
     ensures unchanged { IfOk result (λ answer. IfNone answer (message.new ≡ message.old)) }
@@ -93,8 +95,13 @@ pub fn set_found_name(
     name: &str,
     value: Value,
 ) -> Result<Option<FieldDescriptor>, AllocError>
-    ensures fits { IfOk result (λ found. is_some found ≡ passes (number_named (message_type_of message.old) name.now) (λ n. takes_at (message_type_of message.old) n value)) }
-    ensures field { IfOk result (λ found. IfSome found (λ field. number_named (message_type_of message.old) name.now ≡ Some (number_of field))) }
+    ensures fits { IfOk result
+        (λ found. is_some found
+        ≡ passes (number_named (message_type_of message.old) name.now)
+        (λ n. takes_at (message_type_of message.old) n value)) }
+    ensures field { IfOk result
+        (λ found. IfSome found
+        (λ field. number_named (message_type_of message.old) name.now ≡ Some (number_of field))) }
     ensures sets { IfOk result (λ found. IfSome found (λ field. Sets (Some (number_of field)) value message.old message.new)) }
     ensures unchanged { IfOk result (λ found. IfNone found (message.new ≡ message.old)) }
     ensures err { OnErr result (message.new ≡ message.old) }

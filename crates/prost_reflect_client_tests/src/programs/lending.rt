@@ -38,7 +38,9 @@ pub fn put_through(
     value: Value,
 ) -> Result<Option<bool>, AllocError>
     ensures found { IfOk result (λ answer. IfSome answer (λ _. is_field_number (message_type_of message.old) number ≡ true)) }
-    ensures missing { IfOk result (λ answer. IfNone answer ((field : FieldDescriptor) → DescribesField (message_type_of message.old) number field → ⊥)) }
+    ensures missing { IfOk result
+        (λ answer. IfNone answer
+        ((field : FieldDescriptor) → DescribesField (message_type_of message.old) number field → ⊥)) }
     ensures fits { IfOk result (λ answer. IfSome answer (λ fits. fits ≡ takes_at (message_type_of message.old) number value)) }
     ensures sets { IfOk result (λ answer. IfSome answer (λ fits. IsTrue fits → Sets (Some number) value message.old message.new)) }
     ensures unchanged { IfOk result (λ answer. IfNone answer (message.new ≡ message.old)) }

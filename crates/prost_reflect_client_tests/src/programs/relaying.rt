@@ -20,8 +20,15 @@ pub fn edit_for_newer(
     path: &[u32],
     value: Value,
 ) -> Result<Option<Vec<u8>>, RelayWithError>
-    ensures decides { IfOk result (λ found. Reduced (schema_named older.now) (type_named older.now) (schema_named newer.now) (type_named newer.now) ↔ IsTrue (is_some found)) }
-    ensures passes { IfOk result (λ found. IfSome found (λ written. Accepts (schema_named newer.now) LEVEL_LIMIT (type_named newer.now) bytes.now → MeansEdited (schema_named newer.now) (type_named newer.now) bytes.now path.now (value_of value) written.items)) }
+    ensures decides { IfOk result
+        (λ found. Reduced (schema_named older.now) (type_named older.now) (schema_named newer.now)
+        (type_named newer.now)
+        ↔ IsTrue (is_some found)) }
+    ensures passes { IfOk result
+        (λ found. IfSome found
+        (λ written. Accepts (schema_named newer.now) LEVEL_LIMIT (type_named newer.now) bytes.now
+        → MeansEdited (schema_named newer.now) (type_named newer.now) bytes.now path.now (value_of value)
+        written.items)) }
 {
     if !older.is_reduction_of(newer)? {
         return Ok(None);

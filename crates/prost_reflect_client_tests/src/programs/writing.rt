@@ -15,7 +15,9 @@ use std::alloc::Global;
 /// Clears a field and writes: the bytes are what the message held without that field.
 pub fn clear_and_encode(alloc: Global, message: &mut DynamicMessage) -> Result<Vec<u8>, ClientError>
     requires { WellStored (content_of message.old) }
-    ensures { IfOk result (λ bytes. bytes.items ≡ encoded (cleared_if (number_declared (message_type_of message.old) 5) (kept (content_of message.old)))) }
+    ensures { IfOk result
+        (λ bytes. bytes.items
+        ≡ encoded (cleared_if (number_declared (message_type_of message.old) 5) (kept (content_of message.old)))) }
 {
     message.clear_field_by_number(5);
     Ok(message.encode_to_vec(alloc)?)

@@ -32,7 +32,9 @@ impl MessageDescriptor {
     /// ```
     pub fn decode_fault(&self, bytes: &[u8]) -> Option<DecodeFault>
         ensures none { Accepts (schema_named self.now) LEVEL_LIMIT (type_named self.now) bytes.now ↔ IsTrue (is_none result) }
-        ensures stands { (fault : DecodeFault) → result ≡ Some fault → StandsAt (schema_named self.now) (message_place LEVEL_LIMIT (type_named self.now) bytes.now) fault.error fault.offset fault.path.items }
+        ensures stands { (fault : DecodeFault) → result ≡ Some fault
+            → StandsAt (schema_named self.now) (message_place LEVEL_LIMIT (type_named self.now) bytes.now) fault.error
+            fault.offset fault.path.items }
     {
         decode_fault(self.tables(), self.index(), bytes)
     }

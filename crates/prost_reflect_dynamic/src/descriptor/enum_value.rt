@@ -114,7 +114,9 @@ impl EnumValueDescriptor {
 
     /// The value's record.
     pub fn enum_value_descriptor_proto(&self) -> &EnumValueDescriptorProto
-        ensures { option_and_then (λ value. record_of (files_of self.now.parent.pool.inner) value.id) (value_row_named self.now) ≡ Some (ValueRecord result.now) }
+        ensures { option_and_then (λ value. record_of (files_of self.now.parent.pool.inner) value.id)
+            (value_row_named self.now)
+            ≡ Some (ValueRecord result.now) }
     {
         let pool = &self.parent.parent_pool().inner;
         pool.value_record(self.parent.index(), self.index)
@@ -128,7 +130,9 @@ impl EnumValueDescriptor {
     /// `NoOptionsMessage` if the pool has no such message type; `Decode` with a fault that the stored bytes have, and only
     /// if that type does not accept them; `OutOfMemory` if memory runs out.
     pub fn options(&self) -> Result<DynamicMessage, OptionsError>
-        ensures { OptionsOf self.now.parent.pool.inner (option_and_then (λ value. record_of (files_of self.now.parent.pool.inner) value.id) (value_row_named self.now)) result }
+        ensures { OptionsOf self.now.parent.pool.inner
+            (option_and_then (λ value. record_of (files_of self.now.parent.pool.inner) value.id)
+            (value_row_named self.now)) result }
     {
         options_by(
             self.parent_pool(),

@@ -114,7 +114,9 @@ impl EnumDescriptor {
     ///
     /// `AllocError` if out of memory.
     pub fn parent_message(&self) -> Result<Option<MessageDescriptor>, AllocError>
-        ensures parent { IfOk result (λ parent. option_map (λ e. e.id.parent) (enum_row_at self.now) ≡ Some (option_map (λ message. message.index) parent)) }
+        ensures parent { IfOk result
+            (λ parent. option_map (λ e. e.id.parent) (enum_row_at self.now)
+            ≡ Some (option_map (λ message. message.index) parent)) }
         ensures pool { IfOk result (λ parent. IfSome parent (λ message. message.pool.inner.value ≡ self.now.pool.inner.value)) }
         ensures top { option_map (λ e. e.id.parent) (enum_row_at self.now) ≡ Some None → IsOk result }
     {
@@ -130,7 +132,9 @@ impl EnumDescriptor {
 
     /// The package of the file, empty where it has none.
     pub fn package_name(&self) -> &str
-        ensures { option_map (λ file. text_or_empty file.package) (option_and_then (λ e. slice_get (files_of self.now.pool.inner) e.id.file) (enum_row_at self.now)) ≡ Some result.now }
+        ensures { option_map (λ file. text_or_empty file.package)
+            (option_and_then (λ e. slice_get (files_of self.now.pool.inner) e.id.file) (enum_row_at self.now))
+            ≡ Some result.now }
     {
         text_or_empty(&self.parent_file_descriptor_proto().package)
     }

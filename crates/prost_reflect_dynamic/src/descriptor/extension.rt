@@ -101,7 +101,9 @@ impl ExtensionDescriptor {
     ///
     /// `AllocError` if out of memory.
     pub fn parent_message(&self) -> Result<Option<MessageDescriptor>, AllocError>
-        ensures parent { IfOk result (λ parent. option_map (λ field. field.id.parent) (extension_row_named self.now) ≡ Some (option_map (λ message. message.index) parent)) }
+        ensures parent { IfOk result
+            (λ parent. option_map (λ field. field.id.parent) (extension_row_named self.now)
+            ≡ Some (option_map (λ message. message.index) parent)) }
         ensures pool { IfOk result (λ parent. IfSome parent (λ message. message.pool.inner.value ≡ self.now.pool.inner.value)) }
         ensures top { option_map (λ field. field.id.parent) (extension_row_named self.now) ≡ Some None → IsOk result }
     {
@@ -121,7 +123,8 @@ impl ExtensionDescriptor {
     ///
     /// `AllocError` if out of memory.
     pub fn containing_message(&self) -> Result<MessageDescriptor, AllocError>
-        ensures message { IfOk result (λ message. option_map (λ extension. extension.message) (extension_named self.now) ≡ Some message.index) }
+        ensures message { IfOk result
+            (λ message. option_map (λ extension. extension.message) (extension_named self.now) ≡ Some message.index) }
         ensures pool { IfOk result (λ message. message.pool.inner.value ≡ self.now.pool.inner.value) }
     {
         MessageDescriptor::at(
@@ -146,7 +149,10 @@ impl ExtensionDescriptor {
 
     /// The package of the file, empty where it has none.
     pub fn package_name(&self) -> &str
-        ensures { option_map (λ file. text_or_empty file.package) (option_and_then (λ field. slice_get (files_of self.now.pool.inner) field.id.file) (extension_row_named self.now)) ≡ Some result.now }
+        ensures { option_map (λ file. text_or_empty file.package)
+            (option_and_then (λ field. slice_get (files_of self.now.pool.inner) field.id.file)
+            (extension_row_named self.now))
+            ≡ Some result.now }
     {
         text_or_empty(&self.parent_file_descriptor_proto().package)
     }
@@ -160,14 +166,18 @@ impl ExtensionDescriptor {
 
     /// The record of the file that declares the extension.
     pub fn parent_file_descriptor_proto(&self) -> &FileDescriptorProto
-        ensures { option_and_then (λ field. slice_get (files_of self.now.pool.inner) field.id.file) (extension_row_named self.now) ≡ Some result.now }
+        ensures { option_and_then (λ field. slice_get (files_of self.now.pool.inner) field.id.file)
+            (extension_row_named self.now)
+            ≡ Some result.now }
     {
         self.pool.inner.file_record(self.table().id.file)
     }
 
     /// The extension's record.
     pub fn field_descriptor_proto(&self) -> &FieldDescriptorProto
-        ensures { option_and_then (λ field. record_of (files_of self.now.pool.inner) field.id) (extension_row_named self.now) ≡ Some (FieldRecord result.now) }
+        ensures { option_and_then (λ field. record_of (files_of self.now.pool.inner) field.id)
+            (extension_row_named self.now)
+            ≡ Some (FieldRecord result.now) }
     {
         let stands = self.pool.inner.extension_table(self.index);
         self.pool.inner.field_record(stands.message, stands.field)
@@ -181,7 +191,9 @@ impl ExtensionDescriptor {
     /// `NoOptionsMessage` if the pool has no such message type; `Decode` with a fault that the stored bytes have, and only
     /// if that type does not accept them; `OutOfMemory` if memory runs out.
     pub fn options(&self) -> Result<DynamicMessage, OptionsError>
-        ensures { OptionsOf self.now.pool.inner (option_and_then (λ field. record_of (files_of self.now.pool.inner) field.id) (extension_row_named self.now)) result }
+        ensures { OptionsOf self.now.pool.inner
+            (option_and_then (λ field. record_of (files_of self.now.pool.inner) field.id)
+            (extension_row_named self.now)) result }
     {
         options_by(
             &self.pool,
@@ -213,14 +225,18 @@ impl ExtensionDescriptor {
 
     /// Whether the extension has a list of values, and is no map.
     pub fn is_list(&self) -> bool
-        ensures { option_map (λ field. is_list (schema_field (pool_rows self.now.pool.inner) field).form) (extension_row_named self.now) ≡ Some result }
+        ensures { option_map (λ field. is_list (schema_field (pool_rows self.now.pool.inner) field).form)
+            (extension_row_named self.now)
+            ≡ Some result }
     {
         is_list(&self.pool.inner, self.table())
     }
 
     /// Whether the extension is a map.
     pub fn is_map(&self) -> bool
-        ensures { option_map (λ field. is_map (schema_field (pool_rows self.now.pool.inner) field).form) (extension_row_named self.now) ≡ Some result }
+        ensures { option_map (λ field. is_map (schema_field (pool_rows self.now.pool.inner) field).form)
+            (extension_row_named self.now)
+            ≡ Some result }
     {
         is_map(&self.pool.inner, self.table())
     }
@@ -300,7 +316,9 @@ impl ExtensionDescriptor {
         ensures row { extension_row_named self.now ≡ Some (field_row result.now) }
         ensures file { result.now.id.file < length (files_of self.now.pool.inner) }
         ensures parent { IfSome result.now.id.parent (λ p. p < length (pool_rows self.now.pool.inner).messages) }
-        ensures kind { IsTrue (kind_in_range (length (pool_rows self.now.pool.inner).messages) (length (pool_rows self.now.pool.inner).enums) result.now.kind) }
+        ensures kind { IsTrue
+            (kind_in_range (length (pool_rows self.now.pool.inner).messages)
+            (length (pool_rows self.now.pool.inner).enums) result.now.kind) }
     {
         self.pool.inner.extension_field(self.index)
     }

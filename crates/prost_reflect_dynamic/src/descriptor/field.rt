@@ -98,7 +98,8 @@ impl FieldDescriptor {
     ///
     /// `AllocError` if out of memory.
     pub fn parent_file(&self) -> Result<FileDescriptor, AllocError>
-        ensures file { IfOk result (λ file. option_map (λ message. message.id.file) (message_row_named self.now.message) ≡ Some file.index) }
+        ensures file { IfOk result
+            (λ file. option_map (λ message. message.id.file) (message_row_named self.now.message) ≡ Some file.index) }
         ensures pool { IfOk result (λ file. file.pool.inner.value ≡ self.now.message.pool.inner.value) }
     {
         self.message.parent_file()
@@ -134,7 +135,8 @@ impl FieldDescriptor {
 
     /// The field's record.
     pub fn field_descriptor_proto(&self) -> &FieldDescriptorProto
-        ensures { option_and_then (λ field. record_of (files_of self.now.message.pool.inner) field.id) (row_at self.now) ≡ Some (FieldRecord result.now) }
+        ensures { option_and_then (λ field. record_of (files_of self.now.message.pool.inner) field.id) (row_at self.now)
+            ≡ Some (FieldRecord result.now) }
     {
         let pool = &self.message.parent_pool().inner;
         pool.field_record(self.message.index(), self.index)
@@ -148,7 +150,9 @@ impl FieldDescriptor {
     /// `NoOptionsMessage` if the pool has no such message type; `Decode` with a fault that the stored bytes have, and only
     /// if that type does not accept them; `OutOfMemory` if memory runs out.
     pub fn options(&self) -> Result<DynamicMessage, OptionsError>
-        ensures { OptionsOf self.now.message.pool.inner (option_and_then (λ field. record_of (files_of self.now.message.pool.inner) field.id) (row_at self.now)) result }
+        ensures { OptionsOf self.now.message.pool.inner
+            (option_and_then (λ field. record_of (files_of self.now.message.pool.inner) field.id) (row_at self.now))
+            result }
     {
         options_by(
             self.parent_pool(),
@@ -187,14 +191,18 @@ impl FieldDescriptor {
 
     /// Whether the field has a list of values, and is no map.
     pub fn is_list(&self) -> bool
-        ensures { option_map (λ field. is_list (schema_field (pool_rows self.now.message.pool.inner) field).form) (row_at self.now) ≡ Some result }
+        ensures { option_map (λ field. is_list (schema_field (pool_rows self.now.message.pool.inner) field).form)
+            (row_at self.now)
+            ≡ Some result }
     {
         is_list(&self.parent_pool().inner, self.table())
     }
 
     /// Whether the field is a map.
     pub fn is_map(&self) -> bool
-        ensures { option_map (λ field. is_map (schema_field (pool_rows self.now.message.pool.inner) field).form) (row_at self.now) ≡ Some result }
+        ensures { option_map (λ field. is_map (schema_field (pool_rows self.now.message.pool.inner) field).form)
+            (row_at self.now)
+            ≡ Some result }
     {
         is_map(&self.parent_pool().inner, self.table())
     }
@@ -252,7 +260,8 @@ impl FieldDescriptor {
     ///
     /// `AllocError` if out of memory.
     pub fn containing_oneof(&self) -> Result<Option<OneofDescriptor>, AllocError>
-        ensures oneof { IfOk result (λ oneof. option_map (λ field. field.oneof) (row_at self.now) ≡ Some (option_map (λ o. o.index) oneof)) }
+        ensures oneof { IfOk result
+            (λ oneof. option_map (λ field. field.oneof) (row_at self.now) ≡ Some (option_map (λ o. o.index) oneof)) }
         ensures message { IfOk result (λ oneof. IfSome oneof (λ o. SameMessage self.now.message o.message)) }
         ensures alone { option_map (λ field. field.oneof) (row_at self.now) ≡ Some None → IsOk result }
     {

@@ -216,9 +216,13 @@ impl FileDescriptor {
     /// `TooLong` if the encoding passes the greatest `usize`, `OutOfMemory` if memory runs out. In each case the output
     /// stays as it was.
     pub fn encode(&self, out: &mut Vec<u8>) -> Result<(), EncodeError>
-        ensures ok { OnOk result (option_map (λ file. out.old.items ++ encoded (of_file file)) (file_record_at self.now) ≡ Some out.new.items) }
+        ensures ok { OnOk result
+            (option_map (λ file. out.old.items ++ encoded (of_file file)) (file_record_at self.now)
+            ≡ Some out.new.items) }
         ensures err { OnErr result (out.new.items ≡ out.old.items) }
-        ensures too_long { IfErr result (λ e. e ≡ EncodeError.TooLong → IfSome (file_record_at self.now) (λ file. 2 ^ 64 ≤ length (encoded (of_file file)))) }
+        ensures too_long { IfErr result
+            (λ e. e ≡ EncodeError.TooLong
+            → IfSome (file_record_at self.now) (λ file. 2 ^ 64 ≤ length (encoded (of_file file)))) }
     {
         self.file_descriptor_proto().encode(out)
     }
@@ -230,7 +234,9 @@ impl FileDescriptor {
     /// `TooLong` if the encoding passes the greatest `usize`, `OutOfMemory` if memory runs out.
     pub fn encode_to_vec(&self, alloc: Global) -> Result<Vec<u8>, EncodeError>
         ensures ok { IfOk result (λ bytes. option_map (λ file. encoded (of_file file)) (file_record_at self.now) ≡ Some bytes.items) }
-        ensures too_long { IfErr result (λ e. e ≡ EncodeError.TooLong → IfSome (file_record_at self.now) (λ file. 2 ^ 64 ≤ length (encoded (of_file file)))) }
+        ensures too_long { IfErr result
+            (λ e. e ≡ EncodeError.TooLong
+            → IfSome (file_record_at self.now) (λ file. 2 ^ 64 ≤ length (encoded (of_file file)))) }
     {
         let mut bytes = Vec::new(alloc);
         self.encode(&mut bytes)?;

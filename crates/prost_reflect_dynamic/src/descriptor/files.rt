@@ -37,9 +37,13 @@ impl DescriptorPool {
         ensures ok { OnOk result (out.new.items ≡ out.old.items ++ encoded (of_files (files_of self.now.inner))) }
         ensures err { OnErr result (out.new.items ≡ out.old.items) }
         ensures too_long { IfErr result (λ e. e ≡ EncodeError.TooLong → 2 ^ 64 ≤ length (encoded (of_files (files_of self.now.inner)))) }
-        ensures reads { OnOk result (levels (of_files (files_of self.now.inner)) ≤ LEVEL_LIMIT → Reads types.FileSet (encoded (of_files (files_of self.now.inner))) (files_of self.now.inner)) }
+        ensures reads { OnOk result
+            (levels (of_files (files_of self.now.inner)) ≤ LEVEL_LIMIT
+            → Reads types.FileSet (encoded (of_files (files_of self.now.inner))) (files_of self.now.inner)) }
         ensures checked { Checked (files_of self.now.inner) (flattened (files_of self.now.inner)) }
-        ensures again { OnOk result (levels (of_files (files_of self.now.inner)) ≤ LEVEL_LIMIT → MakesAgain (encoded (of_files (files_of self.now.inner))) self.now.inner.value) }
+        ensures again { OnOk result
+            (levels (of_files (files_of self.now.inner)) ≤ LEVEL_LIMIT
+            → MakesAgain (encoded (of_files (files_of self.now.inner))) self.now.inner.value) }
     {
         encode_files(self.inner.shared_files(), out)
     }
@@ -52,9 +56,13 @@ impl DescriptorPool {
     pub fn encode_to_vec(&self, alloc: Global) -> Result<Vec<u8>, EncodeError>
         ensures ok { IfOk result (λ bytes. bytes.items ≡ encoded (of_files (files_of self.now.inner))) }
         ensures too_long { IfErr result (λ e. e ≡ EncodeError.TooLong → 2 ^ 64 ≤ length (encoded (of_files (files_of self.now.inner)))) }
-        ensures reads { OnOk result (levels (of_files (files_of self.now.inner)) ≤ LEVEL_LIMIT → Reads types.FileSet (encoded (of_files (files_of self.now.inner))) (files_of self.now.inner)) }
+        ensures reads { OnOk result
+            (levels (of_files (files_of self.now.inner)) ≤ LEVEL_LIMIT
+            → Reads types.FileSet (encoded (of_files (files_of self.now.inner))) (files_of self.now.inner)) }
         ensures checked { Checked (files_of self.now.inner) (flattened (files_of self.now.inner)) }
-        ensures again { OnOk result (levels (of_files (files_of self.now.inner)) ≤ LEVEL_LIMIT → MakesAgain (encoded (of_files (files_of self.now.inner))) self.now.inner.value) }
+        ensures again { OnOk result
+            (levels (of_files (files_of self.now.inner)) ≤ LEVEL_LIMIT
+            → MakesAgain (encoded (of_files (files_of self.now.inner))) self.now.inner.value) }
     {
         let mut bytes = Vec::new(alloc);
         self.encode(&mut bytes)?;

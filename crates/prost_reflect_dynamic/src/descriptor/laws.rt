@@ -25,17 +25,40 @@ use crate::descriptor::{
 /// and their places are one; those of fields, oneofs, values and methods exactly where what they belong to is, and their places
 /// in it are one.
 pub fn descriptor_equality()
-    ensures pool { (a : DescriptorPool) (b : DescriptorPool) → IsTrue (⟦<DescriptorPool as PartialEq>⟧.eq a b) ↔ SameContents (files_of a.inner) (files_of b.inner) }
-    ensures tables { (a : DescriptorPool) (b : DescriptorPool) → IsTrue (⟦<DescriptorPool as PartialEq>⟧.eq a b) → pool_rows a.inner ≡ pool_rows b.inner }
-    ensures message { (a : MessageDescriptor) (b : MessageDescriptor) → IsTrue (⟦<MessageDescriptor as PartialEq>⟧.eq a b) ↔ (SameContents (files_of a.pool.inner) (files_of b.pool.inner) × (a.index ≡ b.index)) }
-    ensures an_enum { (a : EnumDescriptor) (b : EnumDescriptor) → IsTrue (⟦<EnumDescriptor as PartialEq>⟧.eq a b) ↔ (SameContents (files_of a.pool.inner) (files_of b.pool.inner) × (a.index ≡ b.index)) }
-    ensures file { (a : FileDescriptor) (b : FileDescriptor) → IsTrue (⟦<FileDescriptor as PartialEq>⟧.eq a b) ↔ (SameContents (files_of a.pool.inner) (files_of b.pool.inner) × (a.index ≡ b.index)) }
-    ensures extension { (a : ExtensionDescriptor) (b : ExtensionDescriptor) → IsTrue (⟦<ExtensionDescriptor as PartialEq>⟧.eq a b) ↔ (SameContents (files_of a.pool.inner) (files_of b.pool.inner) × (a.index ≡ b.index)) }
-    ensures service { (a : ServiceDescriptor) (b : ServiceDescriptor) → IsTrue (⟦<ServiceDescriptor as PartialEq>⟧.eq a b) ↔ (SameContents (files_of a.pool.inner) (files_of b.pool.inner) × (a.index ≡ b.index)) }
-    ensures field { (a : FieldDescriptor) (b : FieldDescriptor) → IsTrue (⟦<FieldDescriptor as PartialEq>⟧.eq a b) ↔ (IsTrue (⟦<MessageDescriptor as PartialEq>⟧.eq a.message b.message) × (a.index ≡ b.index)) }
-    ensures oneof { (a : OneofDescriptor) (b : OneofDescriptor) → IsTrue (⟦<OneofDescriptor as PartialEq>⟧.eq a b) ↔ (IsTrue (⟦<MessageDescriptor as PartialEq>⟧.eq a.message b.message) × (a.index ≡ b.index)) }
-    ensures value { (a : EnumValueDescriptor) (b : EnumValueDescriptor) → IsTrue (⟦<EnumValueDescriptor as PartialEq>⟧.eq a b) ↔ (IsTrue (⟦<EnumDescriptor as PartialEq>⟧.eq a.parent b.parent) × (a.index ≡ b.index)) }
-    ensures method { (a : MethodDescriptor) (b : MethodDescriptor) → IsTrue (⟦<MethodDescriptor as PartialEq>⟧.eq a b) ↔ (IsTrue (⟦<ServiceDescriptor as PartialEq>⟧.eq a.service b.service) × (a.index ≡ b.index)) }
-    ensures schema { (a : MessageDescriptor) (b : MessageDescriptor) → IsTrue (⟦<MessageDescriptor as PartialEq>⟧.eq a b) → schema_named a ≡ schema_named b }
-    ensures place { (a : MessageDescriptor) (b : MessageDescriptor) → IsTrue (⟦<MessageDescriptor as PartialEq>⟧.eq a b) → type_named a ≡ type_named b }
+    ensures pool { (a : DescriptorPool) (b : DescriptorPool)
+        → IsTrue (⟦<DescriptorPool as PartialEq>⟧.eq a b) ↔ SameContents (files_of a.inner) (files_of b.inner) }
+    ensures tables { (a : DescriptorPool) (b : DescriptorPool) → IsTrue (⟦<DescriptorPool as PartialEq>⟧.eq a b)
+        → pool_rows a.inner ≡ pool_rows b.inner }
+    ensures message { (a : MessageDescriptor) (b : MessageDescriptor)
+        → IsTrue (⟦<MessageDescriptor as PartialEq>⟧.eq a b)
+        ↔ (SameContents (files_of a.pool.inner) (files_of b.pool.inner) × (a.index ≡ b.index)) }
+    ensures an_enum { (a : EnumDescriptor) (b : EnumDescriptor)
+        → IsTrue (⟦<EnumDescriptor as PartialEq>⟧.eq a b)
+        ↔ (SameContents (files_of a.pool.inner) (files_of b.pool.inner) × (a.index ≡ b.index)) }
+    ensures file { (a : FileDescriptor) (b : FileDescriptor)
+        → IsTrue (⟦<FileDescriptor as PartialEq>⟧.eq a b)
+        ↔ (SameContents (files_of a.pool.inner) (files_of b.pool.inner) × (a.index ≡ b.index)) }
+    ensures extension { (a : ExtensionDescriptor) (b : ExtensionDescriptor)
+        → IsTrue (⟦<ExtensionDescriptor as PartialEq>⟧.eq a b)
+        ↔ (SameContents (files_of a.pool.inner) (files_of b.pool.inner) × (a.index ≡ b.index)) }
+    ensures service { (a : ServiceDescriptor) (b : ServiceDescriptor)
+        → IsTrue (⟦<ServiceDescriptor as PartialEq>⟧.eq a b)
+        ↔ (SameContents (files_of a.pool.inner) (files_of b.pool.inner) × (a.index ≡ b.index)) }
+    ensures field { (a : FieldDescriptor) (b : FieldDescriptor)
+        → IsTrue (⟦<FieldDescriptor as PartialEq>⟧.eq a b)
+        ↔ (IsTrue (⟦<MessageDescriptor as PartialEq>⟧.eq a.message b.message) × (a.index ≡ b.index)) }
+    ensures oneof { (a : OneofDescriptor) (b : OneofDescriptor)
+        → IsTrue (⟦<OneofDescriptor as PartialEq>⟧.eq a b)
+        ↔ (IsTrue (⟦<MessageDescriptor as PartialEq>⟧.eq a.message b.message) × (a.index ≡ b.index)) }
+    ensures value { (a : EnumValueDescriptor) (b : EnumValueDescriptor)
+        → IsTrue (⟦<EnumValueDescriptor as PartialEq>⟧.eq a b)
+        ↔ (IsTrue (⟦<EnumDescriptor as PartialEq>⟧.eq a.parent b.parent) × (a.index ≡ b.index)) }
+    ensures method { (a : MethodDescriptor) (b : MethodDescriptor)
+        → IsTrue (⟦<MethodDescriptor as PartialEq>⟧.eq a b)
+        ↔ (IsTrue (⟦<ServiceDescriptor as PartialEq>⟧.eq a.service b.service) × (a.index ≡ b.index)) }
+    ensures schema { (a : MessageDescriptor) (b : MessageDescriptor)
+        → IsTrue (⟦<MessageDescriptor as PartialEq>⟧.eq a b)
+        → schema_named a ≡ schema_named b }
+    ensures place { (a : MessageDescriptor) (b : MessageDescriptor) → IsTrue (⟦<MessageDescriptor as PartialEq>⟧.eq a b)
+        → type_named a ≡ type_named b }
 {}

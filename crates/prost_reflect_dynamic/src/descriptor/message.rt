@@ -132,7 +132,9 @@ impl MessageDescriptor {
     ///
     /// `AllocError` if out of memory.
     pub fn parent_message(&self) -> Result<Option<MessageDescriptor>, AllocError>
-        ensures parent { IfOk result (λ parent. option_map (λ message. message.id.parent) (message_row_named self.now) ≡ Some (option_map (λ message. message.index) parent)) }
+        ensures parent { IfOk result
+            (λ parent. option_map (λ message. message.id.parent) (message_row_named self.now)
+            ≡ Some (option_map (λ message. message.index) parent)) }
         ensures pool { IfOk result (λ parent. IfSome parent (λ message. message.pool.inner.value ≡ self.now.pool.inner.value)) }
         ensures top { option_map (λ message. message.id.parent) (message_row_named self.now) ≡ Some None → IsOk result }
     {
@@ -221,7 +223,8 @@ impl MessageDescriptor {
     /// The oneofs, in the order of their declaration.
     pub fn oneofs(&self) -> Descriptors<'_, MessageDescriptor, OneofDescriptor>
         ensures message { result.parent.now ≡ self.now }
-        ensures places { option_map (λ message. places_from 0 (length message.oneofs)) (message_row_named self.now) ≡ Some (places_left result.places) }
+        ensures places { option_map (λ message. places_from 0 (length message.oneofs)) (message_row_named self.now)
+            ≡ Some (places_left result.places) }
     {
         Descriptors::new(self, Places::up_to(self.table().oneofs.len()))
     }

@@ -101,7 +101,8 @@ impl MethodDescriptor {
     ///
     /// `AllocError` if out of memory.
     pub fn parent_file(&self) -> Result<FileDescriptor, AllocError>
-        ensures file { IfOk result (λ file. option_map (λ service. service.id.file) (service_row_named self.now.service) ≡ Some file.index) }
+        ensures file { IfOk result
+            (λ file. option_map (λ service. service.id.file) (service_row_named self.now.service) ≡ Some file.index) }
         ensures pool { IfOk result (λ file. file.pool.inner.value ≡ self.now.service.pool.inner.value) }
     {
         self.service.parent_file()

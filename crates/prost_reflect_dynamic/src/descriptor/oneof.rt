@@ -86,7 +86,8 @@ impl OneofDescriptor {
     ///
     /// `AllocError` if out of memory.
     pub fn parent_file(&self) -> Result<FileDescriptor, AllocError>
-        ensures file { IfOk result (λ file. option_map (λ message. message.id.file) (message_row_named self.now.message) ≡ Some file.index) }
+        ensures file { IfOk result
+            (λ file. option_map (λ message. message.id.file) (message_row_named self.now.message) ≡ Some file.index) }
         ensures pool { IfOk result (λ file. file.pool.inner.value ≡ self.now.message.pool.inner.value) }
     {
         self.message.parent_file()
@@ -122,7 +123,9 @@ impl OneofDescriptor {
 
     /// The oneof's record.
     pub fn oneof_descriptor_proto(&self) -> &OneofDescriptorProto
-        ensures { option_and_then (λ oneof. record_of (files_of self.now.message.pool.inner) oneof.id) (oneof_row_named self.now) ≡ Some (OneofRecord result.now) }
+        ensures { option_and_then (λ oneof. record_of (files_of self.now.message.pool.inner) oneof.id)
+            (oneof_row_named self.now)
+            ≡ Some (OneofRecord result.now) }
     {
         let pool = &self.message.parent_pool().inner;
         pool.oneof_record(self.message.index(), self.index)
@@ -136,7 +139,9 @@ impl OneofDescriptor {
     /// `NoOptionsMessage` if the pool has no such message type; `Decode` with a fault that the stored bytes have, and only
     /// if that type does not accept them; `OutOfMemory` if memory runs out.
     pub fn options(&self) -> Result<DynamicMessage, OptionsError>
-        ensures { OptionsOf self.now.message.pool.inner (option_and_then (λ oneof. record_of (files_of self.now.message.pool.inner) oneof.id) (oneof_row_named self.now)) result }
+        ensures { OptionsOf self.now.message.pool.inner
+            (option_and_then (λ oneof. record_of (files_of self.now.message.pool.inner) oneof.id)
+            (oneof_row_named self.now)) result }
     {
         options_by(
             self.parent_pool(),
@@ -166,7 +171,10 @@ impl OneofDescriptor {
 
     /// Whether the oneof has one member alone, and that one's record says `proto3_optional`: no source text declares it.
     pub fn is_synthetic(&self) -> bool
-        ensures { option_map (λ oneof. is_synthetic_in (files_of self.now.message.pool.inner) (descriptor_fields self.now.message) oneof.fields) (oneof_row_named self.now) ≡ Some result }
+        ensures { option_map
+            (λ oneof. is_synthetic_in (files_of self.now.message.pool.inner) (descriptor_fields self.now.message)
+            oneof.fields) (oneof_row_named self.now)
+            ≡ Some result }
     {
         let pool = &self.message.parent_pool().inner;
         match self.table().fields.as_slice() {

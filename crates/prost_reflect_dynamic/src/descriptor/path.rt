@@ -20,7 +20,9 @@ impl MessageDescriptor {
     ///
     /// `AllocError` if out of memory.
     pub fn get_field_by_path(&self, path: &[u32]) -> Result<Option<FieldDescriptor>, AllocError>
-        ensures row { IfOk result (λ found. option_and_then row_at found ≡ row_led (rows_of_pool self.now.pool.inner) self.now.index path.now) }
+        ensures row { IfOk result
+            (λ found. option_and_then row_at found
+            ≡ row_led (rows_of_pool self.now.pool.inner) self.now.index path.now) }
         ensures pool { IfOk result (λ found. IfSome found (λ field. field.message.pool.inner.value ≡ self.now.pool.inner.value)) }
     {
         match field_place(&self.parent_pool().inner, self.index(), path) {

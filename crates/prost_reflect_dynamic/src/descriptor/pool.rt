@@ -111,7 +111,8 @@ impl DescriptorPool {
     ///
     /// `AllocError` if out of memory.
     pub fn get_message_by_name(&self, name: &str) -> Result<Option<MessageDescriptor>, AllocError>
-        ensures found { IfOk result (λ found. option_map (λ message. message.index) found ≡ message_place (pool_rows self.now.inner) name.now) }
+        ensures found { IfOk result
+            (λ found. option_map (λ message. message.index) found ≡ message_place (pool_rows self.now.inner) name.now) }
         ensures pool { IfOk result (λ found. IfSome found (λ message. message.pool.inner.value ≡ self.now.inner.value)) }
         ensures missing { message_place (pool_rows self.now.inner) name.now ≡ None → IsOk result }
     {
@@ -146,7 +147,9 @@ impl DescriptorPool {
         &self,
         name: &str,
     ) -> Result<Option<ExtensionDescriptor>, AllocError>
-        ensures found { IfOk result (λ found. option_map (λ extension. extension.index) found ≡ extension_place (pool_rows self.now.inner) (pool_catalog self.now.inner) name.now) }
+        ensures found { IfOk result
+            (λ found. option_map (λ extension. extension.index) found
+            ≡ extension_place (pool_rows self.now.inner) (pool_catalog self.now.inner) name.now) }
         ensures pool { IfOk result (λ found. IfSome found (λ extension. extension.pool.inner.value ≡ self.now.inner.value)) }
         ensures missing { extension_place (pool_rows self.now.inner) (pool_catalog self.now.inner) name.now ≡ None → IsOk result }
     {
@@ -169,7 +172,9 @@ impl DescriptorPool {
     ///
     /// `AllocError` if out of memory.
     pub fn get_service_by_name(&self, name: &str) -> Result<Option<ServiceDescriptor>, AllocError>
-        ensures found { IfOk result (λ found. option_map (λ service. service.index) found ≡ service_place (pool_catalog self.now.inner) name.now) }
+        ensures found { IfOk result
+            (λ found. option_map (λ service. service.index) found
+            ≡ service_place (pool_catalog self.now.inner) name.now) }
         ensures pool { IfOk result (λ found. IfSome found (λ service. service.pool.inner.value ≡ self.now.inner.value)) }
         ensures missing { service_place (pool_catalog self.now.inner) name.now ≡ None → IsOk result }
     {

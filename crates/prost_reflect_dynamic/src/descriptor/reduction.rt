@@ -38,7 +38,10 @@ impl MessageDescriptor {
     ///
     /// `AllocError` if out of memory.
     pub fn is_reduction_of(&self, newer: &MessageDescriptor) -> Result<bool, AllocError>
-        ensures decides { IfOk result (λ yes. Reduced (schema_named self.now) (type_named self.now) (schema_named newer.now) (type_named newer.now) ↔ IsTrue yes) }
+        ensures decides { IfOk result
+            (λ yes. Reduced (schema_named self.now) (type_named self.now) (schema_named newer.now)
+            (type_named newer.now)
+            ↔ IsTrue yes) }
         ensures newer { schema_valid (schema_named newer.now) ≡ true }
     {
         let alloc = self.parent_pool().inner.allocator();
@@ -81,8 +84,14 @@ impl MessageDescriptor {
         &self,
         newer: &MessageDescriptor,
     ) -> Result<Option<ReductionFault>, AllocError>
-        ensures none { IfOk result (λ fault. Reduced (schema_named self.now) (type_named self.now) (schema_named newer.now) (type_named newer.now) ↔ IsTrue (is_none fault)) }
-        ensures stands { IfOk result (λ found. (fault : ReductionFault) → found ≡ Some fault → FaultStands (schema_named self.now) (type_named self.now) (schema_named newer.now) (type_named newer.now) fault) }
+        ensures none { IfOk result
+            (λ fault. Reduced (schema_named self.now) (type_named self.now) (schema_named newer.now)
+            (type_named newer.now)
+            ↔ IsTrue (is_none fault)) }
+        ensures stands { IfOk result
+            (λ found. (fault : ReductionFault) → found ≡ Some fault
+            → FaultStands (schema_named self.now) (type_named self.now) (schema_named newer.now)
+            (type_named newer.now) fault) }
     {
         let alloc = self.parent_pool().inner.allocator();
         reduction_fault(

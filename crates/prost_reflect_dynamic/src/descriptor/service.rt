@@ -111,7 +111,10 @@ impl ServiceDescriptor {
 
     /// The package of the file, empty where it has none.
     pub fn package_name(&self) -> &str
-        ensures { option_map (λ file. text_or_empty file.package) (option_and_then (λ service. slice_get (files_of self.now.pool.inner) service.id.file) (service_row_named self.now)) ≡ Some result.now }
+        ensures { option_map (λ file. text_or_empty file.package)
+            (option_and_then (λ service. slice_get (files_of self.now.pool.inner) service.id.file)
+            (service_row_named self.now))
+            ≡ Some result.now }
     {
         text_or_empty(&self.parent_file_descriptor_proto().package)
     }
@@ -125,14 +128,18 @@ impl ServiceDescriptor {
 
     /// The record of the file that declares the service.
     pub fn parent_file_descriptor_proto(&self) -> &FileDescriptorProto
-        ensures { option_and_then (λ service. slice_get (files_of self.now.pool.inner) service.id.file) (service_row_named self.now) ≡ Some result.now }
+        ensures { option_and_then (λ service. slice_get (files_of self.now.pool.inner) service.id.file)
+            (service_row_named self.now)
+            ≡ Some result.now }
     {
         self.pool.inner.file_record(self.table().id.file)
     }
 
     /// The service's record.
     pub fn service_descriptor_proto(&self) -> &ServiceDescriptorProto
-        ensures { option_and_then (λ service. record_of (files_of self.now.pool.inner) service.id) (service_row_named self.now) ≡ Some (ServiceRecord result.now) }
+        ensures { option_and_then (λ service. record_of (files_of self.now.pool.inner) service.id)
+            (service_row_named self.now)
+            ≡ Some (ServiceRecord result.now) }
     {
         self.pool.inner.service_record(self.index)
     }
@@ -145,7 +152,9 @@ impl ServiceDescriptor {
     /// `NoOptionsMessage` if the pool has no such message type; `Decode` with a fault that the stored bytes have, and only
     /// if that type does not accept them; `OutOfMemory` if memory runs out.
     pub fn options(&self) -> Result<DynamicMessage, OptionsError>
-        ensures { OptionsOf self.now.pool.inner (option_and_then (λ service. record_of (files_of self.now.pool.inner) service.id) (service_row_named self.now)) result }
+        ensures { OptionsOf self.now.pool.inner
+            (option_and_then (λ service. record_of (files_of self.now.pool.inner) service.id)
+            (service_row_named self.now)) result }
     {
         options_by(
             &self.pool,

@@ -149,7 +149,10 @@ impl DynamicMessage {
         ensures sets { OnOk result (LeavesSet (Some (number_of field.now)) self.old) }
         ensures message { IfOk result (λ lent. LeavesMessage (Some (number_of field.now)) self.old lent.now) }
         ensures message_type { (v : Value) → message_type_of (left_at self.old (number_of field.now) v) ≡ message_type_of self.old }
-        ensures content { OnOk result ((v : Value) → content_of (left_at self.old (number_of field.now) v) ≡ value_set (number_of field.now) (value_of v) (content_of self.old)) }
+        ensures content { OnOk result
+            ((v : Value)
+            → content_of (left_at self.old (number_of field.now) v)
+            ≡ value_set (number_of field.now) (value_of v) (content_of self.old)) }
     {
         self.value_or_default_mut(alloc, field.number())
     }
@@ -308,7 +311,9 @@ impl DynamicMessage {
         ensures sets { OnOk result (LeavesSet (Some number) self.old) }
         ensures message { IfOk result (λ lent. LeavesMessage (Some number) self.old lent.now) }
         ensures message_type { (v : Value) → message_type_of (left_at self.old number v) ≡ message_type_of self.old }
-        ensures content { OnOk result ((v : Value) → content_of (left_at self.old number v) ≡ value_set number (value_of v) (content_of self.old)) }
+        ensures content { OnOk result
+            ((v : Value)
+            → content_of (left_at self.old number v) ≡ value_set number (value_of v) (content_of self.old)) }
     {
         match self.default_if_absent(alloc, number) {
             Ok(default) => self.value_mut_or(number, default),
@@ -319,8 +324,12 @@ impl DynamicMessage {
     /// The default of the field or extension of a number where nothing is stored, and any value where something is.
     fn default_if_absent(&self, alloc: Global, number: u32) -> Result<Value, AllocError>
         requires { is_known (known_of (message_type_of self.now)) number ≡ true }
-        ensures default { IfOk result (λ v. value_at number (entries_of (content_of self.now)) ≡ None → IsDefaultAt (message_type_of self.now) number v) }
-        ensures typed { IfOk result (λ v. value_at number (entries_of (content_of self.now)) ≡ None → typed_at (message_type_of self.now) number (value_stored v) ≡ true) }
+        ensures default { IfOk result
+            (λ v. value_at number (entries_of (content_of self.now)) ≡ None
+            → IsDefaultAt (message_type_of self.now) number v) }
+        ensures typed { IfOk result
+            (λ v. value_at number (entries_of (content_of self.now)) ≡ None
+            → typed_at (message_type_of self.now) number (value_stored v) ≡ true) }
     {
         match self.stored_value(number) {
             Some(_) => Ok(Value::Bool(false)),

@@ -40,7 +40,9 @@ impl DynamicMessage {
     /// A message of the same type, with copies of what stands at the numbers.
     pub(super) fn clone_at(&self, numbers: &BTreeSet<u32>) -> Result<DynamicMessage, AllocError>
         ensures message_type { IfOk result (λ part. SameMessage (message_type_of self.now) (message_type_of part)) }
-        ensures content { IfOk result (λ part. IsJoined (has numbers.now) (cleared (content_of self.now)) (content_of self.now) (content_of part)) }
+        ensures content { IfOk result
+            (λ part. IsJoined (has numbers.now) (cleared (content_of self.now)) (content_of self.now)
+            (content_of part)) }
         ensures typed { IfOk result (λ part. StaysTyped self.now part) }
     {
         let alloc = self.fields.allocator();

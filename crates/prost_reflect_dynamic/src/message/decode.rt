@@ -70,13 +70,22 @@ impl DynamicMessage {
         bytes: &[u8],
     ) -> Result<DynamicMessage, DecodeError>
         ensures message_type { IfOk result (λ message. IsNamed descriptor (message_type_of message)) }
-        ensures means { IfOk result (λ message. decoded (schema_named descriptor) LEVEL_LIMIT (type_named descriptor) bytes.now ≡ Some (kept (content_of message))) }
+        ensures means { IfOk result
+            (λ message. decoded (schema_named descriptor) LEVEL_LIMIT (type_named descriptor) bytes.now
+            ≡ Some (kept (content_of message))) }
         ensures sound { IfOk result (λ message. WellStored (content_of message)) }
         ensures typed { IfOk result (λ message. all_typed (message_stored message) ≡ true) }
-        ensures again { IfOk result (λ message. length (encoded (kept (content_of message))) < 2 ^ 64 → MeansSame (schema_named descriptor) (type_named descriptor) bytes.now (encoded (kept (content_of message)))) }
+        ensures again { IfOk result
+            (λ message. length (encoded (kept (content_of message))) < 2 ^ 64
+            → MeansSame (schema_named descriptor) (type_named descriptor) bytes.now
+            (encoded (kept (content_of message)))) }
         ensures accepts { IfOk result (λ _. Accepts (schema_named descriptor) LEVEL_LIMIT (type_named descriptor) bytes.now) }
-        ensures fault { IfErr result (λ e. e ≢ DecodeError.OutOfMemory → StandsInMessage (schema_named descriptor) (type_named descriptor) LEVEL_LIMIT e bytes.now) }
-        ensures accepted { IfErr result (λ e. Accepts (schema_named descriptor) LEVEL_LIMIT (type_named descriptor) bytes.now → e ≡ DecodeError.OutOfMemory) }
+        ensures fault { IfErr result
+            (λ e. e ≢ DecodeError.OutOfMemory
+            → StandsInMessage (schema_named descriptor) (type_named descriptor) LEVEL_LIMIT e bytes.now) }
+        ensures accepted { IfErr result
+            (λ e. Accepts (schema_named descriptor) LEVEL_LIMIT (type_named descriptor) bytes.now
+            → e ≡ DecodeError.OutOfMemory) }
     {
         let mut message = DynamicMessage::new(alloc, descriptor);
         message.merge_records(alloc, bytes, RECURSION_LIMIT)?;
@@ -95,7 +104,10 @@ impl DynamicMessage {
         ensures ok { IfOk result (λ _. Progress levels (content_of self.old) (content_of self.new) bytes.now []) }
         ensures message_type { message_type_of self.new ≡ message_type_of self.old }
         ensures typed { IfOk result (λ _. StaysTyped self.old self.new) }
-        ensures fault { IfErr result (λ e. e ≢ DecodeError.OutOfMemory → StandsInMessage (schema_of (content_of self.old)) (type_of (content_of self.old)) levels e bytes.now) }
+        ensures fault { IfErr result
+            (λ e. e ≢ DecodeError.OutOfMemory
+            → StandsInMessage (schema_of (content_of self.old)) (type_of (content_of self.old)) levels e
+            bytes.now) }
     {
         let mut rest = bytes;
         while !rest.is_empty() {
@@ -117,10 +129,14 @@ impl DynamicMessage {
         levels: u32,
     ) -> Result<&'a [u8], DecodeError>
         requires sound { WellStored (content_of self.old) }
-        ensures ok { IfOk result (λ rest. Step levels number.value wire_type (content_of self.old) (content_of self.new) bytes.now rest.now) }
+        ensures ok { IfOk result
+            (λ rest. Step levels number.value wire_type (content_of self.old) (content_of self.new) bytes.now
+            rest.now) }
         ensures message_type { message_type_of self.new ≡ message_type_of self.old }
         ensures typed { IfOk result (λ _. StaysTyped self.old self.new) }
-        ensures fault { IfErr result (λ e. e ≢ DecodeError.OutOfMemory → StandsBehindKey (content_of self.old) levels number.value wire_type e bytes.now) }
+        ensures fault { IfErr result
+            (λ e. e ≢ DecodeError.OutOfMemory
+            → StandsBehindKey (content_of self.old) levels number.value wire_type e bytes.now) }
     {
         match target_at(self.message_type(), number.get()) {
             Target::Scalar(kind, oneof) => {
@@ -161,10 +177,14 @@ impl DynamicMessage {
         requires sound { WellStored (content_of self.old) }
         requires field { PlainField (message_type_of self.old) number.value kind }
         requires oneof { oneof ≡ oneof_of (known_of (message_type_of self.old)) number.value }
-        ensures ok { IfOk result (λ rest. Step levels number.value wire_type (content_of self.old) (content_of self.new) bytes.now rest.now) }
+        ensures ok { IfOk result
+            (λ rest. Step levels number.value wire_type (content_of self.old) (content_of self.new) bytes.now
+            rest.now) }
         ensures message_type { message_type_of self.new ≡ message_type_of self.old }
         ensures typed { IfOk result (λ _. StaysTyped self.old self.new) }
-        ensures fault { IfErr result (λ e. e ≢ DecodeError.OutOfMemory → StandsBehindKey (content_of self.old) levels number.value wire_type e bytes.now) }
+        ensures fault { IfErr result
+            (λ e. e ≢ DecodeError.OutOfMemory
+            → StandsBehindKey (content_of self.old) levels number.value wire_type e bytes.now) }
     {
         let (value, rest) = scalar_at(alloc, kind, wire_type, bytes)?;
         if is_stray(self.message_type(), kind, &value) {
@@ -185,10 +205,14 @@ impl DynamicMessage {
     ) -> Result<&'a [u8], DecodeError>
         requires sound { WellStored (content_of self.old) }
         requires unknown { StaysUnknown (known_of (message_type_of self.old)) levels number.value wire_type bytes.now }
-        ensures ok { IfOk result (λ rest. Step levels number.value wire_type (content_of self.old) (content_of self.new) bytes.now rest.now) }
+        ensures ok { IfOk result
+            (λ rest. Step levels number.value wire_type (content_of self.old) (content_of self.new) bytes.now
+            rest.now) }
         ensures message_type { message_type_of self.new ≡ message_type_of self.old }
         ensures typed { IfOk result (λ _. StaysTyped self.old self.new) }
-        ensures fault { IfErr result (λ e. e ≢ DecodeError.OutOfMemory → StandsBehindKey (content_of self.old) levels number.value wire_type e bytes.now) }
+        ensures fault { IfErr result
+            (λ e. e ≢ DecodeError.OutOfMemory
+            → StandsBehindKey (content_of self.old) levels number.value wire_type e bytes.now) }
     {
         let (value, rest) = decode_value(alloc, number, wire_type, bytes, levels)?;
         self.add_unknown(number.get(), UnknownField::new(number, value))?;

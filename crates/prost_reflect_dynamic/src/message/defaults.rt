@@ -21,7 +21,9 @@ use std::alloc::{AllocError, Global};
 /// field of one value without presence.
 pub(crate) fn is_field_default(message_type: &PooledType, field: &FieldTable, value: &Value) -> bool
     requires { field_valid (schema_at message_type.now) (schema_field (pool_rows message_type.now.pool) (field_row field.now)) ≡ true }
-    ensures { result ≡ is_field_default (schema_field (pool_rows message_type.now.pool) (field_row field.now)) (kept_inside (value_of value.now)) }
+    ensures { result
+        ≡ is_field_default (schema_field (pool_rows message_type.now.pool) (field_row field.now))
+        (kept_inside (value_of value.now)) }
 {
     match value.as_scalar() {
         Some(scalar) => {
@@ -41,7 +43,11 @@ pub(crate) fn default_value(
 ) -> Result<Value, AllocError>
     requires { field_valid (schema_at message_type.now) (schema_field (pool_rows message_type.now.pool) (field_row field.now)) ≡ true }
     ensures default { IfOk result (IsRowDefault message_type.now.pool (field_row field.now)) }
-    ensures value { IfOk result (λ v. value_of v ≡ default_value (schema_at message_type.now) (schema_field (pool_rows message_type.now.pool) (field_row field.now)).form (schema_field (pool_rows message_type.now.pool) (field_row field.now)).value_type) }
+    ensures value { IfOk result
+        (λ v. value_of v
+        ≡ default_value (schema_at message_type.now)
+        (schema_field (pool_rows message_type.now.pool) (field_row field.now)).form
+        (schema_field (pool_rows message_type.now.pool) (field_row field.now)).value_type) }
 {
     defaults::default_value(alloc, message_type.pool(), field)
 }

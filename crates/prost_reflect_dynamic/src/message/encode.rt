@@ -111,7 +111,8 @@ fn write_repeated<S: Sink>(
     field: &FieldTable,
     value: &Value,
 )
-    requires field { Some (schema_field (pool_rows message_type.now.pool) (field_row field.now)) ≡ field_of (known_of message_type.now) number }
+    requires field { Some (schema_field (pool_rows message_type.now.pool) (field_row field.now))
+        ≡ field_of (known_of message_type.now) number }
     requires repeated { is_repeated (field_row field.now).cardinality ≡ true }
     requires writable { ValueWritable (known_of message_type.now) number (value_of value.now) }
     ensures { Adds S.added sink.old sink.new (value_bytes (known_of message_type.now) number (value_of value.now)) }
@@ -136,7 +137,8 @@ fn write_elements<S: Sink>(
     field: &FieldTable,
     value: &Value,
 )
-    requires field { Some (schema_field (pool_rows message_type.now.pool) (field_row field.now)) ≡ field_of (known_of message_type.now) number }
+    requires field { Some (schema_field (pool_rows message_type.now.pool) (field_row field.now))
+        ≡ field_of (known_of message_type.now) number }
     requires repeated { is_repeated (field_row field.now).cardinality ≡ true }
     requires no_map { None ≡ map_parts (pool_rows message_type.now.pool) (field_row field.now) }
     requires writable { ValueWritable (known_of message_type.now) number (value_of value.now) }
@@ -196,7 +198,9 @@ fn write_entries<S: Sink>(
     pairs: &BTreeMap<MapKey, Value>,
 )
     requires { AreEntries (field_row key_field.now).kind pairs.now.entries }
-    ensures { Adds S.added sink.old sink.new (nested_pairs_bytes number (pool_rows message_type.now.pool).enums (field_row key_field.now) pairs.now.entries) }
+    ensures { Adds S.added sink.old sink.new
+        (nested_pairs_bytes number (pool_rows message_type.now.pool).enums (field_row key_field.now)
+        pairs.now.entries) }
 {
     for (key, value) in pairs.iter().rev() {
         write_entry(sink, message_type, number, key_field, key, value);
@@ -215,7 +219,9 @@ fn write_entry<S: Sink>(
 )
     requires key { TakesScalar (field_row key_field.now).kind (ScalarValue (key_of key.now)) }
     requires message { ElementWritable (value_of value.now) }
-    ensures { Adds S.added sink.old sink.new (nested_entry_bytes number (pool_rows message_type.now.pool).enums (field_row key_field.now) (key_of key.now) (value_of value.now)) }
+    ensures { Adds S.added sink.old sink.new
+        (nested_entry_bytes number (pool_rows message_type.now.pool).enums (field_row key_field.now) (key_of key.now)
+        (value_of value.now)) }
 {
     let before = sink.len();
     match value {
@@ -254,8 +260,12 @@ impl DynamicMessage {
         requires encodable { encodable (content_of self.now) ≡ true }
         ensures ok { OnOk result (out.new.items ≡ out.old.items ++ encoded (kept (content_of self.now))) }
         ensures fits { OnOk result (length (encoded (kept (content_of self.now))) < 2 ^ 64) }
-        ensures reads_back { OnOk result (WellStored (content_of self.now) → ReadsBack (kept (content_of self.now)) (encoded (kept (content_of self.now)))) }
-        ensures canonical { OnOk result (WellStored (content_of self.now) → IsOnlyOf (kept (content_of self.now)) (encoded (kept (content_of self.now)))) }
+        ensures reads_back { OnOk result
+            (WellStored (content_of self.now)
+            → ReadsBack (kept (content_of self.now)) (encoded (kept (content_of self.now)))) }
+        ensures canonical { OnOk result
+            (WellStored (content_of self.now)
+            → IsOnlyOf (kept (content_of self.now)) (encoded (kept (content_of self.now)))) }
         ensures err { OnErr result (out.new.items ≡ out.old.items) }
         ensures too_long { IfErr result (λ e. e ≡ EncodeError.TooLong → 2 ^ 64 ≤ length (encoded (kept (content_of self.now)))) }
     {

@@ -81,14 +81,20 @@ impl DynamicMessage {
         extension: &ExtensionDescriptor,
     ) -> Result<&mut Value, AllocError>
         requires { IsOwnExtension (message_type_of self.old) extension.now }
-        ensures* writes_back { sem 𝓛 (LendsIfOk the_row value.the_row self.entry result (left_at self.old (extension_number extension.now)) self.old) }
+        ensures* writes_back { sem 𝓛
+            (LendsIfOk the_row value.the_row self.entry result (left_at self.old (extension_number extension.now))
+            self.old) }
         ensures value { IfOk result (λ lent. IsLentOf self.old (extension_number extension.now) lent.now) }
         ensures part { IfOk result (λ lent. IsPart self.old (extension_number extension.now) lent.now) }
         ensures inside { IfOk result (λ lent. LendsInside (Some (extension_number extension.now)) self.old lent.now) }
         ensures sets { OnOk result (LeavesSet (Some (extension_number extension.now)) self.old) }
         ensures message { IfOk result (λ lent. LeavesMessage (Some (extension_number extension.now)) self.old lent.now) }
-        ensures message_type { (v : Value) → message_type_of (left_at self.old (extension_number extension.now) v) ≡ message_type_of self.old }
-        ensures content { OnOk result ((v : Value) → content_of (left_at self.old (extension_number extension.now) v) ≡ value_set (extension_number extension.now) (value_of v) (content_of self.old)) }
+        ensures message_type { (v : Value)
+            → message_type_of (left_at self.old (extension_number extension.now) v) ≡ message_type_of self.old }
+        ensures content { OnOk result
+            ((v : Value)
+            → content_of (left_at self.old (extension_number extension.now) v)
+            ≡ value_set (extension_number extension.now) (value_of v) (content_of self.old)) }
     {
         self.value_or_default_mut(alloc, extension.number())
     }

@@ -41,15 +41,22 @@ impl DynamicMessage {
         alloc: Global,
         number: u32,
     ) -> Result<&mut Value, GetFieldError>
-        ensures* writes_back { sem 𝓛 (LendsIfOk the_row value.the_row self.entry result (left_if (number_declared (message_type_of self.old) number) self.old) self.old) }
+        ensures* writes_back { sem 𝓛
+            (LendsIfOk the_row value.the_row self.entry result
+            (left_if (number_declared (message_type_of self.old) number) self.old) self.old) }
         ensures value { IfOk result (λ lent. IsLentIf (number_declared (message_type_of self.old) number) self.old lent.now) }
         ensures part { IfOk result (λ lent. IsPart self.old number lent.now) }
         ensures inside { IfOk result (λ lent. LendsInside (number_declared (message_type_of self.old) number) self.old lent.now) }
         ensures sets { OnOk result (LeavesSet (number_declared (message_type_of self.old) number) self.old) }
         ensures message { IfOk result (λ lent. LeavesMessage (number_declared (message_type_of self.old) number) self.old lent.now) }
         ensures found { IsOk result → is_field_number (message_type_of self.old) number ≡ true }
-        ensures message_type { (v : Value) → message_type_of (left_if (number_declared (message_type_of self.old) number) self.old v) ≡ message_type_of self.old }
-        ensures content { OnOk result ((v : Value) → content_of (left_if (number_declared (message_type_of self.old) number) self.old v) ≡ set_if (number_declared (message_type_of self.old) number) (value_of v) (content_of self.old)) }
+        ensures message_type { (v : Value)
+            → message_type_of (left_if (number_declared (message_type_of self.old) number) self.old v)
+            ≡ message_type_of self.old }
+        ensures content { OnOk result
+            ((v : Value)
+            → content_of (left_if (number_declared (message_type_of self.old) number) self.old v)
+            ≡ set_if (number_declared (message_type_of self.old) number) (value_of v) (content_of self.old)) }
         ensures refused { IfErr result (RefusesLoan (number_declared (message_type_of self.old) number)) }
     {
         if self.is_field_number(number) {
@@ -74,14 +81,21 @@ impl DynamicMessage {
         alloc: Global,
         name: &str,
     ) -> Result<&mut Value, GetFieldError>
-        ensures* writes_back { sem 𝓛 (LendsIfOk the_row value.the_row self.entry result (left_if (number_named (message_type_of self.old) name.now) self.old) self.old) }
+        ensures* writes_back { sem 𝓛
+            (LendsIfOk the_row value.the_row self.entry result
+            (left_if (number_named (message_type_of self.old) name.now) self.old) self.old) }
         ensures value { IfOk result (λ lent. IsLentIf (number_named (message_type_of self.old) name.now) self.old lent.now) }
         ensures part { IfOk result (λ lent. IfSome (number_named (message_type_of self.old) name.now) (λ n. IsPart self.old n lent.now)) }
         ensures inside { IfOk result (λ lent. LendsInside (number_named (message_type_of self.old) name.now) self.old lent.now) }
         ensures sets { OnOk result (LeavesSet (number_named (message_type_of self.old) name.now) self.old) }
         ensures message { IfOk result (λ lent. LeavesMessage (number_named (message_type_of self.old) name.now) self.old lent.now) }
-        ensures message_type { (v : Value) → message_type_of (left_if (number_named (message_type_of self.old) name.now) self.old v) ≡ message_type_of self.old }
-        ensures content { OnOk result ((v : Value) → content_of (left_if (number_named (message_type_of self.old) name.now) self.old v) ≡ set_if (number_named (message_type_of self.old) name.now) (value_of v) (content_of self.old)) }
+        ensures message_type { (v : Value)
+            → message_type_of (left_if (number_named (message_type_of self.old) name.now) self.old v)
+            ≡ message_type_of self.old }
+        ensures content { OnOk result
+            ((v : Value)
+            → content_of (left_if (number_named (message_type_of self.old) name.now) self.old v)
+            ≡ set_if (number_named (message_type_of self.old) name.now) (value_of v) (content_of self.old)) }
         ensures refused { IfErr result (RefusesLoan (number_named (message_type_of self.old) name.now)) }
     {
         match self.number_named(name) {

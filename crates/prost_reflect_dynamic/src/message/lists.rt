@@ -41,7 +41,9 @@ impl DynamicMessage {
 
     /// The numbers of the fields, or those of the extensions.
     fn numbers(&self, alloc: Global, of_extensions: bool) -> Result<Vec<u32>, AllocError>
-        ensures { IfOk result (λ numbers. numbers.items ≡ flat_map (number_listed of_extensions) (present_in (kept (content_of self.now)))) }
+        ensures { IfOk result
+            (λ numbers. numbers.items
+            ≡ flat_map (number_listed of_extensions) (present_in (kept (content_of self.now)))) }
     {
         let present = self.present_numbers(alloc)?;
         let mut numbers = Vec::new(alloc);

@@ -51,11 +51,19 @@ impl DynamicMessage {
     /// the type does not accept them; `OutOfMemory` if memory runs out. In each case the message stays as it was.
     pub fn merge(&mut self, bytes: &[u8]) -> Result<(), DecodeError>
         requires sound { WellStored (content_of self.old) }
-        ensures merged { IfOk result (λ _. MergesMeaning (schema_at (message_type_of self.old)) (type_at (message_type_of self.old)) bytes.now (kept (content_of self.old)) (kept (content_of self.new))) }
+        ensures merged { IfOk result
+            (λ _. MergesMeaning (schema_at (message_type_of self.old)) (type_at (message_type_of self.old)) bytes.now
+            (kept (content_of self.old)) (kept (content_of self.new))) }
         ensures holds { IfOk result (λ _. Holds (content_of self.old) (content_of self.new)) }
         ensures message_type { SameMessage (message_type_of self.old) (message_type_of self.new) }
-        ensures fault { IfErr result (λ e. e ≢ DecodeError.OutOfMemory → StandsInMessage (schema_at (message_type_of self.old)) (type_at (message_type_of self.old)) LEVEL_LIMIT e bytes.now) }
-        ensures accepted { IfErr result (λ e. Accepts (schema_at (message_type_of self.old)) LEVEL_LIMIT (type_at (message_type_of self.old)) bytes.now → e ≡ DecodeError.OutOfMemory) }
+        ensures fault { IfErr result
+            (λ e. e ≢ DecodeError.OutOfMemory
+            → StandsInMessage (schema_at (message_type_of self.old)) (type_at (message_type_of self.old))
+            LEVEL_LIMIT e bytes.now) }
+        ensures accepted { IfErr result
+            (λ e. Accepts (schema_at (message_type_of self.old)) LEVEL_LIMIT (type_at (message_type_of self.old))
+            bytes.now
+            → e ≡ DecodeError.OutOfMemory) }
         ensures unchanged { IfErr result (λ _. self.new ≡ self.old) }
         ensures sound { WellStored (content_of self.new) }
         ensures typed { all_typed (message_stored self.old) ≡ true → all_typed (message_stored self.new) ≡ true }
@@ -69,7 +77,10 @@ impl DynamicMessage {
         ensures ok { IfOk result (λ _. Progress LEVEL_LIMIT (content_of self.old) (content_of self.new) bytes.now []) }
         ensures message_type { SameMessage (message_type_of self.old) (message_type_of self.new) }
         ensures typed { IfOk result (λ _. StaysTyped self.old self.new) }
-        ensures fault { IfErr result (λ e. e ≢ DecodeError.OutOfMemory → StandsInMessage (schema_of (content_of self.old)) (type_of (content_of self.old)) LEVEL_LIMIT e bytes.now) }
+        ensures fault { IfErr result
+            (λ e. e ≢ DecodeError.OutOfMemory
+            → StandsInMessage (schema_of (content_of self.old)) (type_of (content_of self.old)) LEVEL_LIMIT e
+            bytes.now) }
         ensures unchanged { IfErr result (λ _. self.new ≡ self.old) }
     {
         if !self.fields.is_empty() {
@@ -91,7 +102,10 @@ impl DynamicMessage {
         ensures ok { IfOk result (λ _. Progress LEVEL_LIMIT (content_of self.old) (content_of self.new) bytes.now []) }
         ensures message_type { SameMessage (message_type_of self.old) (message_type_of self.new) }
         ensures typed { IfOk result (λ _. StaysTyped self.old self.new) }
-        ensures fault { IfErr result (λ e. e ≢ DecodeError.OutOfMemory → StandsInMessage (schema_of (content_of self.old)) (type_of (content_of self.old)) LEVEL_LIMIT e bytes.now) }
+        ensures fault { IfErr result
+            (λ e. e ≢ DecodeError.OutOfMemory
+            → StandsInMessage (schema_of (content_of self.old)) (type_of (content_of self.old)) LEVEL_LIMIT e
+            bytes.now) }
         ensures unchanged { IfErr result (λ _. self.new ≡ self.old) }
     {
         let alloc = self.fields.allocator();

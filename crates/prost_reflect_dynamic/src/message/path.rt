@@ -21,7 +21,9 @@ use std::alloc::{AllocError, Global};
 /// Whether the field that a path of numbers leads to from the message type takes the value; none if the path leads to no
 /// field, as `MessageDescriptor::get_field_by_path` says it.
 pub fn takes_at_path(descriptor: &MessageDescriptor, path: &[u32], value: &Value) -> Option<bool>
-    ensures { result ≡ option_map (λ f. value_valid f (value_of value.now)) (field_led (schema_named descriptor.now) (type_named descriptor.now) path.now) }
+    ensures { result
+        ≡ option_map (λ f. value_valid f (value_of value.now))
+        (field_led (schema_named descriptor.now) (type_named descriptor.now) path.now) }
 {
     let pool = &descriptor.parent_pool().inner;
     let field = field_led(pool, descriptor.index(), path)?;

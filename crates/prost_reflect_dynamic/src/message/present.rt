@@ -67,7 +67,9 @@ fn push_present(
 
 /// The number of a value, if the value is kept.
 fn present_value(message_type: &PooledType, number: u32, value: &Value) -> Option<PresentNumber>
-    ensures { result ≡ value_present (known_of message_type.now) number (kept_value (field_of (known_of message_type.now) number) (kept_inside (value_of value.now))) }
+    ensures { result
+        ≡ value_present (known_of message_type.now) number
+        (kept_value (field_of (known_of message_type.now) number) (kept_inside (value_of value.now))) }
 {
     match message_type.field_table(number) {
         Some(field) if is_field_default(message_type, field, value) => None,

@@ -144,8 +144,12 @@ impl DynamicMessage {
         ensures message_type { message_type_of self.new ≡ message_type_of self.old }
         ensures sets { OnOk result (Sets (number_declared (message_type_of self.old) number) value self.old self.new) }
         ensures found { IsOk result → is_field_number (message_type_of self.old) number ≡ true }
-        ensures valid { IsOk result → passes (number_declared (message_type_of self.old) number) (λ n. takes_at (message_type_of self.old) n value) ≡ true }
-        ensures again { IsOk result → is_field_number (message_type_of self.new) number ≡ true → takes_at (message_type_of self.new) number value ≡ true }
+        ensures valid { IsOk result
+            → passes (number_declared (message_type_of self.old) number)
+            (λ n. takes_at (message_type_of self.old) n value)
+            ≡ true }
+        ensures again { IsOk result → is_field_number (message_type_of self.new) number ≡ true
+            → takes_at (message_type_of self.new) number value ≡ true }
         ensures err { OnErr result (self.new ≡ self.old) }
         ensures refused { IfErr result (RefusesFound (message_type_of self.old) (number_declared (message_type_of self.old) number) value) }
     {
@@ -165,8 +169,13 @@ impl DynamicMessage {
     pub fn try_set_field_by_name(&mut self, name: &str, value: Value) -> Result<(), SetFieldError>
         ensures message_type { message_type_of self.new ≡ message_type_of self.old }
         ensures sets { OnOk result (Sets (number_named (message_type_of self.old) name.now) value self.old self.new) }
-        ensures valid { IsOk result → passes (number_named (message_type_of self.old) name.now) (λ n. takes_at (message_type_of self.old) n value) ≡ true }
-        ensures again { IsOk result → IfSome (number_named (message_type_of self.new) name.now) (λ n. takes_at (message_type_of self.new) n value ≡ true) }
+        ensures valid { IsOk result
+            → passes (number_named (message_type_of self.old) name.now)
+            (λ n. takes_at (message_type_of self.old) n value)
+            ≡ true }
+        ensures again { IsOk result
+            → IfSome (number_named (message_type_of self.new) name.now)
+            (λ n. takes_at (message_type_of self.new) n value ≡ true) }
         ensures err { OnErr result (self.new ≡ self.old) }
         ensures refused { IfErr result (RefusesFound (message_type_of self.old) (number_named (message_type_of self.old) name.now) value) }
     {

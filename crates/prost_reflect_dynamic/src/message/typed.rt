@@ -60,7 +60,10 @@ fn message_typed(message: &DynamicMessage) -> bool
 /// Whether the messages in a value are of the type of a number's field.
 #[cycle(typing)]
 fn stored_typed(message_type: &PooledType, number: u32, value: &Value) -> bool
-    ensures { result ≡ value_typed (pool_contents message_type.now.pool) (pool_rows message_type.now.pool) (place_for (field_of (known_of message_type.now) number) (value_stored value.now)) (value_stored value.now) }
+    ensures { result
+        ≡ value_typed (pool_contents message_type.now.pool) (pool_rows message_type.now.pool)
+        (place_for (field_of (known_of message_type.now) number) (value_stored value.now))
+        (value_stored value.now) }
 {
     let place = place_at(message_type, number, value);
     value_typed(message_type, place, value)
@@ -83,7 +86,9 @@ fn value_typed(message_type: &PooledType, place: Option<usize>, value: &Value) -
 
 #[cycle(typing)]
 fn items_typed(message_type: &PooledType, place: Option<usize>, values: &Vec<Value>) -> bool
-    ensures { result ≡ items_typed (pool_contents message_type.now.pool) (pool_rows message_type.now.pool) place (stored_items value_stored values.now.items) }
+    ensures { result
+        ≡ items_typed (pool_contents message_type.now.pool) (pool_rows message_type.now.pool) place
+        (stored_items value_stored values.now.items) }
 {
     for value in values {
         if !value_typed(message_type, place, value) {
@@ -99,7 +104,9 @@ fn pairs_typed(
     place: Option<usize>,
     pairs: &BTreeMap<MapKey, Value>,
 ) -> bool
-    ensures { result ≡ pairs_typed (pool_contents message_type.now.pool) (pool_rows message_type.now.pool) place (stored_pairs value_stored pairs.now.entries) }
+    ensures { result
+        ≡ pairs_typed (pool_contents message_type.now.pool) (pool_rows message_type.now.pool) place
+        (stored_pairs value_stored pairs.now.entries) }
 {
     for (_, value) in pairs.iter() {
         if !value_typed(message_type, place, value) {
@@ -111,7 +118,9 @@ fn pairs_typed(
 
 /// Whether the message is of the type at the place of the pool of a message type, or of one whose files hold the same.
 fn stands_there(message_type: &PooledType, place: Option<usize>, message: &DynamicMessage) -> bool
-    ensures { result ≡ stands_there (pool_contents message_type.now.pool) (pool_rows message_type.now.pool) place (message_stored message.now) }
+    ensures { result
+        ≡ stands_there (pool_contents message_type.now.pool) (pool_rows message_type.now.pool) place
+        (message_stored message.now) }
 {
     let own = message.message_type();
     match place {

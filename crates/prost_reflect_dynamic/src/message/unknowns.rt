@@ -125,7 +125,8 @@ impl DynamicMessage {
     /// `AllocError` if out of memory; then nothing changes.
     pub fn take_unknown_fields(&mut self, alloc: Global) -> Result<TakenUnknownFields, AllocError>
         ensures taken { IfOk result (λ taken. taken_left taken ≡ all_unknown (stored_in self.old)) }
-        ensures records { IfOk result (λ taken. map unknown_record (taken_left taken) ≡ unknown_records (entries_of (content_of self.old))) }
+        ensures records { IfOk result
+            (λ taken. map unknown_record (taken_left taken) ≡ unknown_records (entries_of (content_of self.old))) }
         ensures message_type { message_type_of self.new ≡ message_type_of self.old }
         ensures stored { OnOk result (stored_in self.new ≡ values_alone (stored_in self.old)) }
         ensures removes { OnOk result (Removes (in_entries without_unknown) self.old self.new) }

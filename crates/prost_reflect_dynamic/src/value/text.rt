@@ -24,7 +24,9 @@ impl Value {
     ///
     /// `AllocError` if out of memory.
     pub fn from_text(alloc: Global, kind: &Kind, text: &str) -> Result<Option<Value>, AllocError>
-        ensures { IfOk result (λ value. option_map value_of value ≡ option_map ScalarValue (field_default (table_kind kind.now) (values_named kind.now) text.now)) }
+        ensures { IfOk result
+            (λ value. option_map value_of value
+            ≡ option_map ScalarValue (field_default (table_kind kind.now) (values_named kind.now) text.now)) }
     {
         match written_default(alloc, kind.to_table(), number_named(kind, text), text)? {
             Some(default) => Ok(Some(written_value(default))),

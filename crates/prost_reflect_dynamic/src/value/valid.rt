@@ -47,7 +47,8 @@ impl Value {
     /// Whether the extension takes the value, as `is_valid_for_field` says it of a field.
     pub fn is_valid_for_extension(&self, extension: &ExtensionDescriptor) -> bool
         ensures fits { result ≡ extension_takes extension.now self.now }
-        ensures by_number { (t : PooledType) → IsOwnExtension t extension.now → result ≡ takes_at t (extension_number extension.now) self.now }
+        ensures by_number { (t : PooledType) → IsOwnExtension t extension.now
+            → result ≡ takes_at t (extension_number extension.now) self.now }
     {
         value_valid(&extension.parent_pool().inner, extension.table(), self)
     }
@@ -90,7 +91,9 @@ fn list_fits(pool: Option<&LinkedPool>, kind: TableKind, value: &Value) -> bool
 
 /// Whether a value is a map whose keys and values are those of two rows.
 fn map_fits(pool: Option<&LinkedPool>, key: &FieldTable, part: &FieldTable, value: &Value) -> bool
-    ensures { result ≡ map_fits (schema_kind (enums_in (option_copied pool.entry)) (field_row key.now).kind false) (schema_kind (enums_in (option_copied pool.entry)) (field_row part.now).kind false) (value_of value.now) }
+    ensures { result
+        ≡ map_fits (schema_kind (enums_in (option_copied pool.entry)) (field_row key.now).kind false)
+        (schema_kind (enums_in (option_copied pool.entry)) (field_row part.now).kind false) (value_of value.now) }
 {
     match value {
         Value::Map(pairs) => pairs_valid(pool, key.kind, part.kind, pairs),
@@ -100,7 +103,9 @@ fn map_fits(pool: Option<&LinkedPool>, key: &FieldTable, part: &FieldTable, valu
 
 /// Whether each value is one of the kind.
 fn elements_valid(pool: Option<&LinkedPool>, kind: TableKind, values: &[Value]) -> bool
-    ensures { result ≡ list_all (λ v. element_valid (schema_kind (enums_in (option_copied pool.entry)) kind false) (value_of v)) values.now }
+    ensures { result
+        ≡ list_all (λ v. element_valid (schema_kind (enums_in (option_copied pool.entry)) kind false) (value_of v))
+        values.now }
 {
     for value in values {
         if !element_valid(pool, kind, value) {
@@ -117,7 +122,10 @@ fn pairs_valid(
     kind: TableKind,
     pairs: &BTreeMap<MapKey, Value>,
 ) -> bool
-    ensures { result ≡ list_all (pair_fits (schema_kind (enums_in (option_copied pool.entry)) key_kind false) (schema_kind (enums_in (option_copied pool.entry)) kind false)) pairs.now.entries }
+    ensures { result
+        ≡ list_all
+        (pair_fits (schema_kind (enums_in (option_copied pool.entry)) key_kind false)
+        (schema_kind (enums_in (option_copied pool.entry)) kind false)) pairs.now.entries }
 {
     for (key, value) in pairs.iter() {
         if !pair_valid(pool, key_kind, kind, key, value) {
@@ -135,7 +143,9 @@ fn pair_valid(
     key: &MapKey,
     value: &Value,
 ) -> bool
-    ensures { result ≡ pair_fits (schema_kind (enums_in (option_copied pool.entry)) key_kind false) (schema_kind (enums_in (option_copied pool.entry)) kind false) (key.now, value.now) }
+    ensures { result
+        ≡ pair_fits (schema_kind (enums_in (option_copied pool.entry)) key_kind false)
+        (schema_kind (enums_in (option_copied pool.entry)) kind false) (key.now, value.now) }
 {
     scalar_valid(pool, key_kind, key.as_scalar()) && element_valid(pool, kind, value)
 }

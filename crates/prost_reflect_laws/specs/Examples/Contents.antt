@@ -17,9 +17,13 @@ pub record Schemas : Type 0 where
   -- No texts are packed.
   pub packed_texts : field_valid examples (list 1 true (text false)) ≡ false
   -- A message has presence.
-  pub message_without_presence : field_valid examples (field 1 Singular (record (message_value_type (MessageOf my_message)) { presence = false })) ≡ false
+  pub message_without_presence : field_valid examples
+      (field 1 Singular (record (message_value_type (MessageOf my_message)) { presence = false }))
+      ≡ false
   -- A map's message value has presence.
-  pub value_without_presence : field_valid examples (field 1 (MapFrom (int32 false)) (record (message_value_type (MessageOf my_message)) { presence = false })) ≡ false
+  pub value_without_presence : field_valid examples
+      (field 1 (MapFrom (int32 false)) (record (message_value_type (MessageOf my_message)) { presence = false }))
+      ≡ false
   -- A message is no key.
   pub message_key : field_valid examples (field 1 (MapFrom (message_value_type (MessageOf my_message))) (int32 false)) ≡ false
   -- Members of a oneof have presence.
@@ -63,15 +67,29 @@ pub record Encodable : Type 0 where
   -- An unknown record at a number that is known.
   pub known_number : encodable (content my_message (Unknown 1 (varint 1) NoEntries)) ≡ false
   -- A message of another type is encodable.
-  pub other_type : encodable (content my_message (Stored 3 (inner unpacked_list (Stored 1 (list_of (int 1 ∷ [])) NoEntries)) NoEntries)) ≡ true
+  pub other_type : encodable
+      (content my_message (Stored 3 (inner unpacked_list (Stored 1 (list_of (int 1 ∷ [])) NoEntries)) NoEntries))
+      ≡ true
   -- It is not typed.
-  pub other_type_untyped : Typed (content my_message (Stored 3 (inner unpacked_list (Stored 1 (list_of (int 1 ∷ [])) NoEntries)) NoEntries)) → ⊥
+  pub other_type_untyped : Typed
+      (content my_message (Stored 3 (inner unpacked_list (Stored 1 (list_of (int 1 ∷ [])) NoEntries)) NoEntries))
+      → ⊥
   -- It is written by its own type.
   pub other_type_written : Writes my_message (Stored 3 (inner unpacked_list (Stored 1 (list_of (int 1 ∷ [])) NoEntries)) NoEntries) "1a020801"
   -- A message of another schema is encodable too,
-  pub other_schema : encodable (content my_message (Stored 3 (MessageValue (ContentOf other_examples foreign_list (Stored 1 (list_of (int 1 ∷ [])) NoEntries))) NoEntries)) ≡ true
+  pub other_schema : encodable
+      (content my_message
+      (Stored 3
+      (MessageValue (ContentOf other_examples foreign_list (Stored 1 (list_of (int 1 ∷ [])) NoEntries)))
+      NoEntries))
+      ≡ true
   -- not typed,
-  pub other_schema_untyped : Typed (content my_message (Stored 3 (MessageValue (ContentOf other_examples foreign_list (Stored 1 (list_of (int 1 ∷ [])) NoEntries))) NoEntries)) → ⊥
+  pub other_schema_untyped : Typed
+      (content my_message
+      (Stored 3
+      (MessageValue (ContentOf other_examples foreign_list (Stored 1 (list_of (int 1 ∷ [])) NoEntries)))
+      NoEntries))
+      → ⊥
   -- and written by its own.
   pub other_schema_written : Writes my_message (Stored 3 (MessageValue (ContentOf other_examples foreign_list (Stored 1 (list_of (int 1 ∷ [])) NoEntries))) NoEntries) "1a020801"
   -- The typed content that has the same bytes.
@@ -115,12 +133,21 @@ pub record WellTypedContents : Type 0 where
 
 pub record Kept : Type 0 where
   -- A default without presence goes, at each depth; one with presence and an empty message stay.
-  pub defaults : kept (content my_message (Stored 1 (int 0) (Stored 2 (int 0) (Stored 3 (inner my_message (Stored 1 (int 0) NoEntries)) NoEntries)))) ≡ content my_message (Stored 2 (int 0) (Stored 3 (inner my_message NoEntries) NoEntries))
+  pub defaults : kept
+      (content my_message
+      (Stored 1 (int 0)
+      (Stored 2 (int 0) (Stored 3 (inner my_message (Stored 1 (int 0) NoEntries)) NoEntries))))
+      ≡ content my_message (Stored 2 (int 0) (Stored 3 (inner my_message NoEntries) NoEntries))
   -- An empty list goes.
   pub empty_list : kept (content unpacked_list (Stored 1 (list_of []) NoEntries)) ≡ content unpacked_list NoEntries
   -- An empty map goes.
   pub empty_map : kept (content maps (Stored 1 (MapValue NoPairs) NoEntries)) ≡ content maps NoEntries
   -- A default in a list or a map stays, and so does an unknown record.
-  pub elements : kept (content unpacked_list (Stored 1 (list_of (int 0 ∷ [])) (Unknown 2 (varint 0) NoEntries))) ≡ content unpacked_list (Stored 1 (list_of (int 0 ∷ [])) (Unknown 2 (varint 0) NoEntries))
+  pub elements : kept (content unpacked_list (Stored 1 (list_of (int 0 ∷ [])) (Unknown 2 (varint 0) NoEntries)))
+      ≡ content unpacked_list (Stored 1 (list_of (int 0 ∷ [])) (Unknown 2 (varint 0) NoEntries))
   -- A message in a map loses its defaults.
-  pub in_map : kept (content maps (Stored 2 (MapValue (Pair (I32 (pos 0)) (inner my_message (Stored 1 (int 0) NoEntries)) NoPairs)) NoEntries)) ≡ content maps (Stored 2 (MapValue (Pair (I32 (pos 0)) (inner my_message NoEntries) NoPairs)) NoEntries)
+  pub in_map : kept
+      (content maps
+      (Stored 2 (MapValue (Pair (I32 (pos 0)) (inner my_message (Stored 1 (int 0) NoEntries)) NoPairs))
+      NoEntries))
+      ≡ content maps (Stored 2 (MapValue (Pair (I32 (pos 0)) (inner my_message NoEntries) NoPairs)) NoEntries)

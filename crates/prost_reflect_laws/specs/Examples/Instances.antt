@@ -57,13 +57,15 @@ pub record OfReading : Type 0 where
   -- and by the relation.
   pub accepted : Accepts examples 1 my_message (hex "1a0408051042")
   -- A declared number of a closed enum is read.
-  pub read_valid : (payload_valid (varint 1) ≡ true) × (is_undeclared two_numbers (varint 1) ≡ false) × (elem two_numbers (varint 1) ≡ Some (EnumNumber (pos 1)))
+  pub read_valid : (payload_valid (varint 1) ≡ true) × (is_undeclared two_numbers (varint 1) ≡ false)
+      × (elem two_numbers (varint 1) ≡ Some (EnumNumber (pos 1)))
 
 pub record OfMeaning : Type 0 where
   -- Members of different oneofs commute.
   pub commute : Apart (known examples two_choices) 1 3
   -- One record that means what two do, where the last wins.
-  pub same_behind : meaning examples 0 my_message (record_at 1 (varint 1) ∷ record_at 1 (varint 2) ∷ []) ≡ meaning examples 0 my_message (record_at 1 (varint 2) ∷ [])
+  pub same_behind : meaning examples 0 my_message (record_at 1 (varint 1) ∷ record_at 1 (varint 2) ∷ [])
+      ≡ meaning examples 0 my_message (record_at 1 (varint 2) ∷ [])
   -- Records that are allowed with one level left. The laws on levels and on what is read cite them.
   pub taken : Taken 1 front
   -- What they mean with another level
@@ -87,11 +89,13 @@ pub record OfMeaning : Type 0 where
   -- They join, by the merge
   pub pieces_merged : merged (meaning examples 1 my_message front) behind ≡ meaning examples LEVEL_LIMIT my_message (front ++ behind)
   -- and record by record.
-  pub pieces_join : steps LEVEL_LIMIT (meaning examples 1 my_message front) behind ≡ meaning examples LEVEL_LIMIT my_message (front ++ behind)
+  pub pieces_join : steps LEVEL_LIMIT (meaning examples 1 my_message front) behind
+      ≡ meaning examples LEVEL_LIMIT my_message (front ++ behind)
   -- A piece that means a content whose bytes have a length, and others behind it.
   pub written_pieces : Taken 1 front × (length (encoded (meaning examples 1 my_message front)) < 2 ^ 64) × (1 ≤ LEVEL_LIMIT)
   -- Its content's records may stand for it.
-  pub pieces_written : meaning examples LEVEL_LIMIT my_message (records (meaning examples 1 my_message front) ++ behind) ≡ meaning examples LEVEL_LIMIT my_message (front ++ behind)
+  pub pieces_written : meaning examples LEVEL_LIMIT my_message (records (meaning examples 1 my_message front) ++ behind)
+      ≡ meaning examples LEVEL_LIMIT my_message (front ++ behind)
   -- Pieces that the limit allows, merged into a content one behind the other.
   pub merges_join : Low 1 sample × Taken LEVEL_LIMIT behind × Taken LEVEL_LIMIT front
   -- They are merged as one.
@@ -129,7 +133,8 @@ pub record OfWriting : Type 0 where
   -- Records merged into it mean what they mean behind its own.
   pub merged_means : merged sample behind ≡ meaning examples 100 my_message (records sample ++ behind)
   -- Bytes with a needless digit,
-  pub normal_form : AreBytes needless × (schema_valid examples ≡ true) × (decoded examples 0 my_message needless ≡ Some (content my_message (Stored 1 (int 1) NoEntries)))
+  pub normal_form : AreBytes needless × (schema_valid examples ≡ true)
+      × (decoded examples 0 my_message needless ≡ Some (content my_message (Stored 1 (int 1) NoEntries)))
   -- which are decoded as a well-typed content
   pub decoded_well : Low 0 (content my_message (Stored 1 (int 1) NoEntries))
   -- whose bytes have a length.

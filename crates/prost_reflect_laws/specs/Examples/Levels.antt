@@ -12,11 +12,13 @@ pub record Levels : Type 0 where
   -- 101 are refused.
   pub messages_past : accepts examples LEVEL_LIMIT my_message (nested 101 []) ≡ false
   -- Likewise 100 unknown groups.
-  pub unknown_groups : relayed examples LEVEL_LIMIT my_message (times 100 0x2b (times 100 0x2c [])) ≡ Some (times 100 0x2b (times 100 0x2c []))
+  pub unknown_groups : relayed examples LEVEL_LIMIT my_message (times 100 0x2b (times 100 0x2c []))
+      ≡ Some (times 100 0x2b (times 100 0x2c []))
   -- 101 are refused.
   pub unknown_groups_past : accepts examples LEVEL_LIMIT my_message (times 101 0x2b (times 101 0x2c [])) ≡ false
   -- Likewise 100 known ones.
-  pub known_groups : relayed examples LEVEL_LIMIT nested_group (times 100 0x0b (times 100 0x0c [])) ≡ Some (times 100 0x0b (times 100 0x0c []))
+  pub known_groups : relayed examples LEVEL_LIMIT nested_group (times 100 0x0b (times 100 0x0c []))
+      ≡ Some (times 100 0x0b (times 100 0x0c []))
   -- 101 are refused.
   pub known_groups_past : accepts examples LEVEL_LIMIT nested_group (times 101 0x0b (times 101 0x0c [])) ≡ false
   -- Messages and unknown groups count together.

@@ -23,7 +23,8 @@ pub record NotOfReadingBack : Type 0 where
   -- A default without presence is not read back.
   pub scalar_back : (is_default_of (int32 false) (int 0) ≡ true) × (IsBack my_message foo (int 0) → ⊥)
   -- Nor is a message whose records do not mean it, as one that stores a default.
-  pub message_back : (meaning examples 1 my_message (records zero_inside) ≡ zero_inside → ⊥) × (IsBack my_message nested_field (MessageValue zero_inside) → ⊥)
+  pub message_back : (meaning examples 1 my_message (records zero_inside) ≡ zero_inside → ⊥)
+      × (IsBack my_message nested_field (MessageValue zero_inside) → ⊥)
   -- Nor is an empty list,
   pub list_back : IsBack unpacked_list unpacked_field (ListValue NoValues) → ⊥
   -- a list whose element is not, here of another kind,
@@ -31,9 +32,14 @@ pub record NotOfReadingBack : Type 0 where
   -- or texts in one packed record.
   pub packed_back : ValueBack (meaning examples 1) (packed_texts ∷ []) 1 packed_texts (list_of (ScalarValue (ascii "a") ∷ [])) → ⊥
   -- Nor is a map in descending keys, though each entry is.
-  pub map_back : PairsBack (meaning examples 1) (text false) (int32 false) descending_pairs × (pairs_ordered descending_pairs ≡ false) × (IsBack maps map_field (MapValue descending_pairs) → ⊥)
+  pub map_back : PairsBack (meaning examples 1) (text false) (int32 false) descending_pairs
+      × (pairs_ordered descending_pairs ≡ false)
+      × (IsBack maps map_field (MapValue descending_pairs) → ⊥)
   -- A packed record of an undeclared number does not stay whole.
   pub stray_back : (is_whole_stray (list 2 true closed_enum).form closed_enum (delimited "07") ≡ false) × (UnknownBack (known examples closed) 2 (delimited "07") → ⊥)
   -- Descending numbers are not meant, though each value is read back.
-  pub entries_mean : EntriesBack (meaning examples 0) (known examples my_message) descending_entries × (entries_ordered descending_entries ≡ false)
-      × (meaning examples 1 my_message (records (content my_message descending_entries)) ≡ content my_message descending_entries → ⊥)
+  pub entries_mean : EntriesBack (meaning examples 0) (known examples my_message) descending_entries
+      × (entries_ordered descending_entries ≡ false)
+      × (meaning examples 1 my_message (records (content my_message descending_entries))
+      ≡ content my_message descending_entries
+      → ⊥)

@@ -25,9 +25,11 @@ pub record NotOfFaults : Type 0 where
   -- Bytes may have more than one fault: a wire type, and behind it number 0.
   pub one_fault : StandsInMessage examples my_message 0 errors.WireType (hex "180000") × StandsInMessage examples my_message 0 errors.Key (hex "180000")
   -- Numbers that are no bytes may have no fault, though they are not accepted.
-  pub accepted_unless_fault : (accepts examples 0 my_message no_value ≡ false) × ((e : DecodeError) → StandsInMessage examples my_message 0 e no_value → ⊥)
+  pub accepted_unless_fault : (accepts examples 0 my_message no_value ≡ false)
+      × ((e : DecodeError) → StandsInMessage examples my_message 0 e no_value → ⊥)
   -- Each error but being out of memory is a fault of some bytes.
-  pub never_stands : (e : DecodeError) → e ≢ errors.OutOfMemory → (T : ℕ) × ((k : ℕ) × ((bytes : List ℕ) × StandsInMessage examples T k e bytes))
+  pub never_stands : (e : DecodeError) → e ≢ errors.OutOfMemory
+      → (T : ℕ) × ((k : ℕ) × ((bytes : List ℕ) × StandsInMessage examples T k e bytes))
   -- Bytes that are not accepted are refused for a fault that they have, too.
   pub only_memory : (errors.Truncated ≢ errors.OutOfMemory → StandsInMessage examples my_message 100 errors.Truncated (hex "0896")) × (errors.Truncated ≢ errors.OutOfMemory)
 

@@ -47,7 +47,9 @@ pub record NotOfMeaning : Type 0 where
   -- for they are not apart.
   pub members_apart : Apart (known examples choice) 1 2 → ⊥
   -- Nor do records of one number.
-  pub number_commutes : message_meaning (a_record ∷ record_at 1 (varint 2) ∷ []) ≡ message_meaning (record_at 1 (varint 2) ∷ a_record ∷ []) → ⊥
+  pub number_commutes : message_meaning (a_record ∷ record_at 1 (varint 2) ∷ [])
+      ≡ message_meaning (record_at 1 (varint 2) ∷ a_record ∷ [])
+      → ⊥
   -- Records of one meaning may not stand for one another behind others: no record, and a default.
   pub same_alone : message_meaning [] ≡ message_meaning (record_at 1 (varint 0) ∷ [])
   -- Behind a number the default clears it.
@@ -69,13 +71,15 @@ pub record NotOfWriting : Type 0 where
   -- As a content that is no message's, a stored default is not read back.
   pub default_lost : decoded examples 0 my_message (encoded stored_default) ≡ Some (content my_message NoEntries)
   -- Of two members of a oneof one is read back.
-  pub member_lost : decoded examples 1 choice (encoded two_members) ≡ Some (content choice (Stored 2 (inner my_message NoEntries) NoEntries))
+  pub member_lost : decoded examples 1 choice (encoded two_members)
+      ≡ Some (content choice (Stored 2 (inner my_message NoEntries) NoEntries))
   -- An empty list is written as no list,
   pub list_written : encoded (content packed_list (Stored 1 (list_of []) NoEntries)) ≡ encoded (content packed_list NoEntries)
   -- and is another content.
   pub list_stored : content packed_list (Stored 1 (list_of []) NoEntries) ≡ content packed_list NoEntries → ⊥
   -- Of a type that no check passes the bytes of a well-typed content do not spell its records,
-  pub zero_spelled : (schema_valid zero_field ≡ false) × WellTyped zero_content × (Spells (body_of (records zero_content)) (encoded zero_content) → ⊥)
+  pub zero_spelled : (schema_valid zero_field ≡ false) × WellTyped zero_content
+      × (Spells (body_of (records zero_content)) (encoded zero_content) → ⊥)
   -- and are not accepted within its levels.
   pub zero_refused : (levels zero_content ≡ 0) × (accepts zero_field 0 0 (encoded zero_content) ≡ false)
   -- The records of a content that does not fit are not allowed within its levels.

@@ -44,4 +44,5 @@ pub record NotOfPassages : Type 0 where
   -- Types past the end of a schema have no fields and are reductions of one another. The test does not look there.
   pub reduced_is_test : Reduced [] 0 [] 0 × (is_reduced [] 0 [] 0 ≡ false)
   -- So it misses a field whose message type stands there, which no check passes.
-  pub reduced_checked : (schema_valid no_message ≡ false) × Reduced no_message 0 no_message 0 × (is_reduced no_message 0 no_message 0 ≡ false)
+  pub reduced_checked : (schema_valid no_message ≡ false) × Reduced no_message 0 no_message 0
+      × (is_reduced no_message 0 no_message 0 ≡ false)

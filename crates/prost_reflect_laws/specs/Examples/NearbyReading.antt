@@ -27,10 +27,14 @@ pub record NotOfRecords : Type 0 where
 
 pub record NotOfScalars : Type 0 where
   -- What is written of a number out of the kind's range is read as another: 2147483648 as -2147483648.
-  pub written_is_read : (scalar_valid Int32 (I32 (pos 2147483648)) ≡ false) × (elem Int32 (Flat (written Int32 (I32 (pos 2147483648)))) ≡ Some (I32 (negsuc 2147483647)))
+  pub written_is_read : (scalar_valid Int32 (I32 (pos 2147483648)) ≡ false)
+      × (elem Int32 (Flat (written Int32 (I32 (pos 2147483648)))) ≡ Some (I32 (negsuc 2147483647)))
   -- What is read is not always written as it stood: 2 is true, which is 1.
   pub read_is_written : (elem BoolKind (varint 2) ≡ Some (Boolean true)) × (written BoolKind (Boolean true) ≡ Var 1)
   -- A stray is read as a number that its enum does not declare.
-  pub stray_is_valid : (payload_valid (varint 7) ≡ true) × (elem two_numbers (varint 7) ≡ Some (EnumNumber (pos 7))) × (scalar_valid two_numbers (EnumNumber (pos 7)) ≡ false)
+  pub stray_is_valid : (payload_valid (varint 7) ≡ true) × (elem two_numbers (varint 7) ≡ Some (EnumNumber (pos 7)))
+      × (scalar_valid two_numbers (EnumNumber (pos 7)) ≡ false)
   -- A payload without a spelling is read as a number past 64 bits.
-  pub read_is_valid : (is_undeclared Uint64 (varint (2 ^ 64)) ≡ false) × (elem Uint64 (varint (2 ^ 64)) ≡ Some (U64 (2 ^ 64))) × (scalar_valid Uint64 (U64 (2 ^ 64)) ≡ false)
+  pub read_is_valid : (is_undeclared Uint64 (varint (2 ^ 64)) ≡ false)
+      × (elem Uint64 (varint (2 ^ 64)) ≡ Some (U64 (2 ^ 64)))
+      × (scalar_valid Uint64 (U64 (2 ^ 64)) ≡ false)

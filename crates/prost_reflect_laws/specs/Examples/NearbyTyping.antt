@@ -38,9 +38,11 @@ pub record NotOfTyping : Type 0 where
   -- The order of records is lost, as numbers ascend in what is read: its records are others.
   pub meaning_ordered : records (meaning examples 0 my_message descending) ≡ descending → ⊥
   -- What records mean that are not allowed may fit no type,
-  pub meaning_typed : (valid (body_of bad_entry) ≡ true) × (allows examples 1 closed bad_entry ≡ false) × (encodable (meaning examples 1 closed bad_entry) ≡ false)
+  pub meaning_typed : (valid (body_of bad_entry) ≡ true) × (allows examples 1 closed bad_entry ≡ false)
+      × (encodable (meaning examples 1 closed bad_entry) ≡ false)
   -- and what records mean that have no spelling.
-  pub meaning_spelled : (valid (body_of numbered_zero) ≡ false) × (allows examples 0 my_message numbered_zero ≡ true) × (encodable (meaning examples 0 my_message numbered_zero) ≡ false)
+  pub meaning_spelled : (valid (body_of numbered_zero) ≡ false) × (allows examples 0 my_message numbered_zero ≡ true)
+      × (encodable (meaning examples 0 my_message numbered_zero) ≡ false)
   -- Of a type that no check passes, what is decoded may fit no type.
   pub decoded_well : (schema_valid text_default ≡ false) × (decoded text_default 0 0 (hex "0a00") ≡ Some text_entry) × (encodable text_entry ≡ false)
   -- Records that are not allowed may mean a content of more levels.
@@ -58,11 +60,18 @@ pub record NotOfTyping : Type 0 where
   -- What is merged may nest deeper than the limit.
   pub merged_levels : WellTyped (content my_message (deep 101)) × (levels (merged (content my_message (deep 101)) []) ≡ 101)
   -- Pieces do not join with fewer levels than the first is allowed with,
-  pub pieces_levels : (allows examples 1 my_message front ≡ true) × (steps 0 (meaning examples 1 my_message front) [] ≡ meaning examples 0 my_message (front ++ []) → ⊥)
+  pub pieces_levels : (allows examples 1 my_message front ≡ true)
+      × (steps 0 (meaning examples 1 my_message front) [] ≡ meaning examples 0 my_message (front ++ []) → ⊥)
   -- nor where the first is not allowed.
-  pub pieces_allowed : (allows examples 0 my_message front ≡ false) × (allows examples LEVEL_LIMIT my_message behind ≡ true) × (merged (meaning examples 0 my_message front) behind ≡ meaning examples LEVEL_LIMIT my_message (front ++ behind) → ⊥)
+  pub pieces_allowed : (allows examples 0 my_message front ≡ false)
+      × (allows examples LEVEL_LIMIT my_message behind ≡ true)
+      × (merged (meaning examples 0 my_message front) behind ≡ meaning examples LEVEL_LIMIT my_message (front ++ behind)
+      → ⊥)
   -- The records of what pieces mean that are not allowed do not stand for them.
-  pub written_pieces : (allows examples 0 my_message front ≡ false) × (meaning examples 1 my_message (records (meaning examples 0 my_message front) ++ []) ≡ meaning examples 1 my_message (front ++ []) → ⊥)
+  pub written_pieces : (allows examples 0 my_message front ≡ false)
+      × (meaning examples 1 my_message (records (meaning examples 0 my_message front) ++ [])
+      ≡ meaning examples 1 my_message (front ++ [])
+      → ⊥)
   -- Pieces are not merged in any order.
   pub merges_join : merged (merged sample behind) front ≡ merged sample (front ++ behind) → ⊥
 
@@ -76,4 +85,5 @@ pub record NotOfContents : Type 0 where
   -- A set of a value that does not fit its field leaves a content that does not fit.
   pub set_fits : WellTyped sample × (encodable (set_at (1 ∷ []) number_as_text sample) ≡ false)
   -- A message of another type fits the field, and what it is set in is not typed.
-  pub set_typed : (encodable (set_at (3 ∷ []) (inner maps NoEntries) sample) ≡ true) × (Typed (set_at (3 ∷ []) (inner maps NoEntries) sample) → ⊥)
+  pub set_typed : (encodable (set_at (3 ∷ []) (inner maps NoEntries) sample) ≡ true)
+      × (Typed (set_at (3 ∷ []) (inner maps NoEntries) sample) → ⊥)

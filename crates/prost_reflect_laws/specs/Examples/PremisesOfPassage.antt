@@ -25,7 +25,9 @@ pub record OfPassages : Type 0 where
   -- The older type accepts them.
   pub older_accepted : Accepts examples 1 older_message relayed_bytes
   -- What they mean to the older type, whose bytes have a length.
-  pub passage : (schema_valid examples ≡ true) × AreBytes relayed_bytes × (decoded examples 1 older_message relayed_bytes ≡ Some older_content) × (length (encoded older_content) < 2 ^ 64)
+  pub passage : (schema_valid examples ≡ true) × AreBytes relayed_bytes
+      × (decoded examples 1 older_message relayed_bytes ≡ Some older_content)
+      × (length (encoded older_content) < 2 ^ 64)
   -- The bytes that went out mean the same to the newer one.
   pub passed : decoded examples 1 my_message (hex "1a0408051042") ≡ decoded examples 1 my_message relayed_bytes
   -- A path of the older type into the message inside, to a number.

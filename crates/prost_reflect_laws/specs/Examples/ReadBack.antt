@@ -49,7 +49,9 @@ pub record OfReadingBack : Type 0 where
   -- It is read back.
   pub scalar_read : IsBack my_message foo (int 5)
   -- A message, whose records mean it.
-  pub message_back : Known my_message nested_field × (is_of_type (MessageOf my_message) my_message ≡ true) × (valid (body_of (records one_inside)) ≡ true) × (meaning examples 1 my_message (records one_inside) ≡ one_inside)
+  pub message_back : Known my_message nested_field × (is_of_type (MessageOf my_message) my_message ≡ true)
+      × (valid (body_of (records one_inside)) ≡ true)
+      × (meaning examples 1 my_message (records one_inside) ≡ one_inside)
   -- It is read back.
   pub message_read : IsBack my_message nested_field (MessageValue one_inside)
   -- A list that is not packed, each element of which is read back.
@@ -69,6 +71,7 @@ pub record OfReadingBack : Type 0 where
   -- It stays unknown.
   pub stray_read : UnknownBack (known examples closed) 1 (varint 7)
   -- A content, each entry of which is read back.
-  pub entries_mean : EntriesBack (meaning examples 1) (known examples my_message) (entries_of sample) × (entries_ordered (entries_of sample) ≡ true)
+  pub entries_mean : EntriesBack (meaning examples 1) (known examples my_message) (entries_of sample)
+      × (entries_ordered (entries_of sample) ≡ true)
   -- Its records mean it.
   pub entries_read : meaning examples 2 my_message (records sample) ≡ sample

@@ -189,15 +189,27 @@ closed_fields e =
     ∷ extension 100 Singular e ∷ extension 101 (Repeated false) (record e { presence = false }) ∷ []
 
 abbrev pub examples : Schema
-examples =
-    message (field 1 Singular (int32 false) ∷ member 2 (int32 true) ∷ field 3 Singular (message_value_type (MessageOf my_message)) ∷ [])
+examples = message
+    (field 1 Singular (int32 false) ∷ member 2 (int32 true)
+    ∷ field 3 Singular (message_value_type (MessageOf my_message))
+    ∷ [])
     ∷ message (member 2 (int32 true) ∷ field 3 Singular (message_value_type (MessageOf older_message)) ∷ [])
-    ∷ message (field 1 Singular (int32 false) ∷ field 3 Singular (message_value_type (MessageOf message_without_bar)) ∷ [])
+    ∷ message
+    (field 1 Singular (int32 false) ∷ field 3 Singular (message_value_type (MessageOf message_without_bar)) ∷ [])
     ∷ message (list 1 false (int32 false) ∷ extension 100 (Repeated false) (int32 false) ∷ [])
     ∷ message (list 1 true (int32 false) ∷ extension 100 (Repeated true) (int32 false) ∷ [])
-    ∷ message (field 1 (MapFrom (text false)) (int32 false) ∷ field 2 (MapFrom (int32 false)) (message_value_type (MessageOf my_message)) ∷ field 3 Singular (message_value_type (MessageOf maps)) ∷ [])
-    ∷ message (field 2 (MapFrom (int32 false)) (message_value_type (MessageOf my_message)) ∷ field 3 Singular (message_value_type (MessageOf maps_without_m)) ∷ [])
-    ∷ message (field 1 (MapFrom (text false)) (int32 false) ∷ field 3 Singular (message_value_type (MessageOf maps_without_q)) ∷ [])
+    ∷ message
+    (field 1 (MapFrom (text false)) (int32 false)
+    ∷ field 2 (MapFrom (int32 false)) (message_value_type (MessageOf my_message))
+    ∷ field 3 Singular (message_value_type (MessageOf maps))
+    ∷ [])
+    ∷ message
+    (field 2 (MapFrom (int32 false)) (message_value_type (MessageOf my_message))
+    ∷ field 3 Singular (message_value_type (MessageOf maps_without_m))
+    ∷ [])
+    ∷ message
+    (field 1 (MapFrom (text false)) (int32 false) ∷ field 3 Singular (message_value_type (MessageOf maps_without_q))
+    ∷ [])
     ∷ message (field 1 (MapFrom (text true)) (int32 true) ∷ [])
     ∷ message (member 1 (int32 true) ∷ member 2 (message_value_type (MessageOf my_message)) ∷ [])
     ∷ message (list 1 false (message_value_type (GroupOf item)) ∷ [])
@@ -212,24 +224,53 @@ examples =
     ∷ message (field 1 Singular closed_enum ∷ [])
     ∷ message (field 1 Singular other_enum ∷ [])
     ∷ message (field 1 Singular open_enum ∷ [])
-    ∷ message (field 1 Singular (scalar_value_type Double false) ∷ field 2 Singular (scalar_value_type Float false) ∷ field 3 Singular (scalar_value_type Int64 false) ∷ field 4 Singular (scalar_value_type Uint64 false)
-    ∷ field 5 Singular (scalar_value_type Int32 false) ∷ field 6 Singular (scalar_value_type Fixed64 false) ∷ field 7 Singular (scalar_value_type Fixed32 false) ∷ field 8 Singular (scalar_value_type BoolKind false)
-    ∷ field 9 Singular (scalar_value_type StringKind false) ∷ field 12 Singular (scalar_value_type BytesKind false) ∷ field 13 Singular (scalar_value_type Uint32 false) ∷ field 15 Singular (scalar_value_type Sfixed32 false)
-    ∷ field 16 Singular (scalar_value_type Sfixed64 false) ∷ field 17 Singular (scalar_value_type Sint32 false) ∷ field 18 Singular (scalar_value_type Sint64 false) ∷ [])
+    ∷ message
+    (field 1 Singular (scalar_value_type Double false) ∷ field 2 Singular (scalar_value_type Float false)
+    ∷ field 3 Singular (scalar_value_type Int64 false)
+    ∷ field 4 Singular (scalar_value_type Uint64 false)
+    ∷ field 5 Singular (scalar_value_type Int32 false)
+    ∷ field 6 Singular (scalar_value_type Fixed64 false)
+    ∷ field 7 Singular (scalar_value_type Fixed32 false)
+    ∷ field 8 Singular (scalar_value_type BoolKind false)
+    ∷ field 9 Singular (scalar_value_type StringKind false)
+    ∷ field 12 Singular (scalar_value_type BytesKind false)
+    ∷ field 13 Singular (scalar_value_type Uint32 false)
+    ∷ field 15 Singular (scalar_value_type Sfixed32 false)
+    ∷ field 16 Singular (scalar_value_type Sfixed64 false)
+    ∷ field 17 Singular (scalar_value_type Sint32 false)
+    ∷ field 18 Singular (scalar_value_type Sint64 false)
+    ∷ [])
     ∷ message (field 1 Singular (int32 true) ∷ [])
     ∷ message (field 1 Singular required_int32 ∷ [])
     ∷ message (field 1 Singular (int32 false) ∷ [])
     ∷ message (field 1 Singular (record (int32 true) { default = I32 (pos 7) }) ∷ [])
     ∷ message (field 1 Singular (scalar_value_type Sint32 true) ∷ [])
-    ∷ message (field 1 Singular (int32 false) ∷ member 2 (int32 true) ∷ field 3 Singular (message_value_type (MessageOf text_at_one)) ∷ [])
+    ∷ message
+    (field 1 Singular (int32 false) ∷ member 2 (int32 true)
+    ∷ field 3 Singular (message_value_type (MessageOf text_at_one))
+    ∷ [])
     ∷ message (field 1 Singular (text false) ∷ [])
-    ∷ message (member 1 (int32 true) ∷ member 2 (int32 true) ∷ record (member 3 (int32 true)) { oneof = Some 1 } ∷ record (member 4 (int32 true)) { oneof = Some 1 } ∷ [])
-    ∷ message (member 2 (int32 true) ∷ record (member 3 (int32 true)) { oneof = Some 1 } ∷ record (member 4 (int32 true)) { oneof = Some 1 } ∷ [])
-    ∷ message (member 1 (int32 true) ∷ record (member 2 (int32 true)) { oneof = Some 1 } ∷ record (member 3 (int32 true)) { oneof = Some 1 } ∷ record (member 4 (int32 true)) { oneof = Some 1 } ∷ [])
+    ∷ message
+    (member 1 (int32 true) ∷ member 2 (int32 true) ∷ record (member 3 (int32 true)) { oneof = Some 1 }
+    ∷ record (member 4 (int32 true)) { oneof = Some 1 }
+    ∷ [])
+    ∷ message
+    (member 2 (int32 true) ∷ record (member 3 (int32 true)) { oneof = Some 1 }
+    ∷ record (member 4 (int32 true)) { oneof = Some 1 }
+    ∷ [])
+    ∷ message
+    (member 1 (int32 true) ∷ record (member 2 (int32 true)) { oneof = Some 1 }
+    ∷ record (member 3 (int32 true)) { oneof = Some 1 }
+    ∷ record (member 4 (int32 true)) { oneof = Some 1 }
+    ∷ [])
     ∷ message (field 1 Singular (message_value_type (MessageOf my_message)) ∷ [])
     ∷ message (list 1 false (message_value_type (MessageOf my_message)) ∷ [])
-    ∷ message (list 1 false (text false) ∷ list 2 true (scalar_value_type Sint64 false) ∷ list 3 true (scalar_value_type Fixed32 false) ∷ [])
-    ∷ message (extension 1 Singular (int32 true) ∷ extension 2 Singular (message_value_type (MessageOf my_message)) ∷ [])
+    ∷ message
+    (list 1 false (text false) ∷ list 2 true (scalar_value_type Sint64 false)
+    ∷ list 3 true (scalar_value_type Fixed32 false)
+    ∷ [])
+    ∷ message
+    (extension 1 Singular (int32 true) ∷ extension 2 Singular (message_value_type (MessageOf my_message)) ∷ [])
     ∷ []
 
 -- { repeated int32 values = 1; } of another schema, at the place that MyMessage has in the first.

@@ -142,10 +142,13 @@ fn push_up_to<T: Drop>(
 ) -> Option<(u32, T)>
     requires room { vec_len items.old + (length (option_to_list next) + into_iter_len others.old) ≤ vec_capacity items.old }
     requires ended { IfNone next (into_iter_items others.old ≡ []) }
-    ensures items { items.new.items ≡ items.old.items ++ chosen_up_to (has numbers.now) bound (option_to_list next ++ into_iter_items others.old) }
-    ensures left { option_to_list result ++ into_iter_items others.new ≡ left_beyond bound (option_to_list next ++ into_iter_items others.old) }
+    ensures items { items.new.items
+        ≡ items.old.items ++ chosen_up_to (has numbers.now) bound (option_to_list next ++ into_iter_items others.old) }
+    ensures left { option_to_list result ++ into_iter_items others.new
+        ≡ left_beyond bound (option_to_list next ++ into_iter_items others.old) }
     ensures ended { IfNone result (into_iter_items others.new ≡ []) }
-    ensures room { vec_len items.new + (length (option_to_list result) + into_iter_len others.new) ≤ vec_len items.old + (length (option_to_list next) + into_iter_len others.old) }
+    ensures room { vec_len items.new + (length (option_to_list result) + into_iter_len others.new)
+        ≤ vec_len items.old + (length (option_to_list next) + into_iter_len others.old) }
     ensures capacity { vec_capacity items.old ≤ vec_capacity items.new }
 {
     let mut next = next;

@@ -64,7 +64,9 @@ impl UnknownField {
     /// `TooLong` if the record passes the greatest `usize`, `OutOfMemory` if memory runs out; the output stays.
     pub fn encode(&self, out: &mut Vec<u8>) -> Result<(), EncodeError>
         ensures ok { OnOk result (out.new.items ≡ out.old.items ++ spelled (unknown_record self.now ∷ [])) }
-        ensures first { OnOk result ((tail : List ℕ) → RecordFront (unknown_record self.now) (spelled (unknown_record self.now ∷ []) ++ tail) tail) }
+        ensures first { OnOk result
+            ((tail : List ℕ)
+            → RecordFront (unknown_record self.now) (spelled (unknown_record self.now ∷ []) ++ tail) tail) }
         ensures err { OnErr result (out.new.items ≡ out.old.items) }
         ensures too_long { IfErr result (λ e. e ≡ EncodeError.TooLong → 2 ^ 64 ≤ length (spelled (unknown_record self.now ∷ []))) }
     {

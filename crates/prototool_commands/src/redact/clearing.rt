@@ -119,7 +119,9 @@ fn clear_element(alloc: Global, value: &mut Value, path: &[u32]) -> Result<(), A
 /// Clears along the path in each element.
 #[cycle(clearing)]
 fn clear_elements(alloc: Global, values: &mut Vec<Value>, path: &[u32]) -> Result<(), AllocError>
-    ensures { IfOk result (λ _. ClearsElements path.now (values_from (map value_of values.old.items)) (values_from (map value_of values.new.items))) }
+    ensures { IfOk result
+        (λ _. ClearsElements path.now (values_from (map value_of values.old.items))
+        (values_from (map value_of values.new.items))) }
 {
     for value in values.iter_mut() {
         clear_element(alloc, value, path)?;

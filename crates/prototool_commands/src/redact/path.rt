@@ -40,7 +40,9 @@ pub fn numbers_of(
     descriptor: &MessageDescriptor,
     path: &str,
 ) -> Result<Option<Vec<u32>>, AllocError>
-    ensures { IfOk result (λ found. AreNumbersOf descriptor.now.pool.inner.value descriptor.now.index path.now (option_map (λ numbers. numbers.items) found)) }
+    ensures { IfOk result
+        (λ found. AreNumbersOf descriptor.now.pool.inner.value descriptor.now.index path.now
+        (option_map (λ numbers. numbers.items) found)) }
 {
     let mut numbers = Vec::new(alloc);
     let mut from = descriptor.clone()?;
@@ -102,7 +104,9 @@ fn own_name(path: &str) -> (Name<'_>, Option<&str>)
 
 /// The field or the extension of the name.
 fn found_by(descriptor: &MessageDescriptor, name: Name<'_>) -> Result<Option<Found>, AllocError>
-    ensures { IfOk result (IsFoundIn descriptor.now.pool.inner.value (row_named descriptor.now.pool.inner.value descriptor.now.index (shown_name name.entry))) }
+    ensures { IfOk result
+        (IsFoundIn descriptor.now.pool.inner.value
+        (row_named descriptor.now.pool.inner.value descriptor.now.index (shown_name name.entry))) }
 {
     match name {
         Name::Field(name) => field_by(descriptor, name),
@@ -112,7 +116,9 @@ fn found_by(descriptor: &MessageDescriptor, name: Name<'_>) -> Result<Option<Fou
 
 /// The field of the name.
 fn field_by(descriptor: &MessageDescriptor, name: &str) -> Result<Option<Found>, AllocError>
-    ensures { IfOk result (IsFoundIn descriptor.now.pool.inner.value (row_named descriptor.now.pool.inner.value descriptor.now.index (Own name.now))) }
+    ensures { IfOk result
+        (IsFoundIn descriptor.now.pool.inner.value
+        (row_named descriptor.now.pool.inner.value descriptor.now.index (Own name.now))) }
 {
     let Some(field) = descriptor.get_field_by_name(name)? else {
         return Ok(None);
@@ -122,7 +128,9 @@ fn field_by(descriptor: &MessageDescriptor, name: &str) -> Result<Option<Found>,
 
 /// The extension of the full name.
 fn extension_by(descriptor: &MessageDescriptor, name: &str) -> Result<Option<Found>, AllocError>
-    ensures { IfOk result (IsFoundIn descriptor.now.pool.inner.value (row_named descriptor.now.pool.inner.value descriptor.now.index (Full name.now))) }
+    ensures { IfOk result
+        (IsFoundIn descriptor.now.pool.inner.value
+        (row_named descriptor.now.pool.inner.value descriptor.now.index (Full name.now))) }
 {
     let Some(extension) = descriptor.get_extension_by_full_name(name)? else {
         return Ok(None);

@@ -34,7 +34,8 @@ impl MessageDescriptor {
     ///
     /// `AllocError` if out of memory.
     pub fn get_field(&self, number: u32) -> Result<Option<FieldDescriptor>, AllocError>
-        ensures found { IfOk result (λ found. option_map (λ field. field.index) found ≡ declared_place (descriptor_fields self.now) number) }
+        ensures found { IfOk result
+            (λ found. option_map (λ field. field.index) found ≡ declared_place (descriptor_fields self.now) number) }
         ensures message { IfOk result (λ found. IfSome found (λ field. SameMessage self.now field.message)) }
         ensures number { IfOk result (λ found. IfSome found (λ field. number_of field ≡ number)) }
         ensures missing { declared_place (descriptor_fields self.now) number ≡ None → IsOk result }
@@ -50,7 +51,9 @@ impl MessageDescriptor {
     pub fn get_field_by_name(&self, name: &str) -> Result<Option<FieldDescriptor>, AllocError>
         ensures found { IfOk result (λ found. option_map (λ field. field.index) found ≡ named_field (descriptor_fields self.now) name.now) }
         ensures message { IfOk result (λ found. IfSome found (λ field. SameMessage self.now field.message)) }
-        ensures name { IfOk result (λ found. IfSome found (λ field. (t : PooledType) → IsOwnField t field → number_named t name.now ≡ Some (number_of field))) }
+        ensures name { IfOk result
+            (λ found. IfSome found
+            (λ field. (t : PooledType) → IsOwnField t field → number_named t name.now ≡ Some (number_of field))) }
         ensures missing { named_field (descriptor_fields self.now) name.now ≡ None → IsOk result }
     {
         self.field_at(self.pool.inner.field_place_by_name(self.index, name))
@@ -65,7 +68,9 @@ impl MessageDescriptor {
         &self,
         json_name: &str,
     ) -> Result<Option<FieldDescriptor>, AllocError>
-        ensures found { IfOk result (λ found. option_map (λ field. field.index) found ≡ json_named_field (descriptor_fields self.now) json_name.now) }
+        ensures found { IfOk result
+            (λ found. option_map (λ field. field.index) found
+            ≡ json_named_field (descriptor_fields self.now) json_name.now) }
         ensures message { IfOk result (λ found. IfSome found (λ field. SameMessage self.now field.message)) }
         ensures missing { json_named_field (descriptor_fields self.now) json_name.now ≡ None → IsOk result }
     {
@@ -95,7 +100,9 @@ impl MessageDescriptor {
     ///
     /// `AllocError` if out of memory.
     pub fn get_extension(&self, number: u32) -> Result<Option<ExtensionDescriptor>, AllocError>
-        ensures found { IfOk result (λ found. option_map (λ extension. extension.index) found ≡ extension_where self.now.pool.inner.value self.now.index (λ f. f.number == number)) }
+        ensures found { IfOk result
+            (λ found. option_map (λ extension. extension.index) found
+            ≡ extension_where self.now.pool.inner.value self.now.index (λ f. f.number == number)) }
         ensures own { IfOk result (λ found. IfSome found (Extends self.now)) }
         ensures missing { extension_where self.now.pool.inner.value self.now.index (λ f. f.number == number) ≡ None → IsOk result }
     {
@@ -115,9 +122,14 @@ impl MessageDescriptor {
         &self,
         name: &str,
     ) -> Result<Option<ExtensionDescriptor>, AllocError>
-        ensures found { IfOk result (λ found. option_map (λ extension. extension.index) found ≡ extension_where self.now.pool.inner.value self.now.index (λ f. bytes_eq f.id.full_name name.now)) }
+        ensures found { IfOk result
+            (λ found. option_map (λ extension. extension.index) found
+            ≡ extension_where self.now.pool.inner.value self.now.index (λ f. bytes_eq f.id.full_name name.now)) }
         ensures own { IfOk result (λ found. IfSome found (Extends self.now)) }
-        ensures missing { extension_where self.now.pool.inner.value self.now.index (λ f. bytes_eq f.id.full_name name.now) ≡ None → IsOk result }
+        ensures missing { extension_where self.now.pool.inner.value self.now.index
+            (λ f. bytes_eq f.id.full_name name.now)
+            ≡ None
+            → IsOk result }
     {
         let pool = &self.pool.inner;
         extension_at(
@@ -135,9 +147,13 @@ impl MessageDescriptor {
         &self,
         name: &str,
     ) -> Result<Option<ExtensionDescriptor>, AllocError>
-        ensures found { IfOk result (λ found. option_map (λ extension. extension.index) found ≡ extension_where self.now.pool.inner.value self.now.index (λ f. bytes_eq f.json_name name.now)) }
+        ensures found { IfOk result
+            (λ found. option_map (λ extension. extension.index) found
+            ≡ extension_where self.now.pool.inner.value self.now.index (λ f. bytes_eq f.json_name name.now)) }
         ensures own { IfOk result (λ found. IfSome found (Extends self.now)) }
-        ensures missing { extension_where self.now.pool.inner.value self.now.index (λ f. bytes_eq f.json_name name.now) ≡ None → IsOk result }
+        ensures missing { extension_where self.now.pool.inner.value self.now.index (λ f. bytes_eq f.json_name name.now)
+            ≡ None
+            → IsOk result }
     {
         let pool = &self.pool.inner;
         extension_at(

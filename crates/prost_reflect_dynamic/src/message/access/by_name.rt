@@ -39,9 +39,15 @@ impl DynamicMessage {
         name: &str,
     ) -> Result<Option<Cow<'_, Value>>, AllocError>
         ensures shown { IfOk result (ShowsFound (number_named (message_type_of self.now) name.now) self.now) }
-        ensures held { IfOk result (λ found. IfSome found (λ shown. IfSome (number_named (message_type_of self.now) name.now) (λ n. ShowsHeld self.now n shown))) }
+        ensures held { IfOk result
+            (λ found. IfSome found
+            (λ shown. IfSome (number_named (message_type_of self.now) name.now)
+            (λ n. ShowsHeld self.now n shown))) }
         ensures inside { IfOk result (λ found. IfSome found (ShownInside self.now)) }
-        ensures part { IfOk result (λ found. IfSome found (λ shown. IfSome (number_named (message_type_of self.now) name.now) (λ n. IsPart self.now n (cow_value shown)))) }
+        ensures part { IfOk result
+            (λ found. IfSome found
+            (λ shown. IfSome (number_named (message_type_of self.now) name.now)
+            (λ n. IsPart self.now n (cow_value shown)))) }
         ensures missing { number_named (message_type_of self.now) name.now ≡ None → IsOk result }
     {
         match self.number_named(name) {

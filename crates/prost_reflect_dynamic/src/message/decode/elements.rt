@@ -34,10 +34,14 @@ impl DynamicMessage {
     ) -> Result<&'a [u8], DecodeError>
         requires sound { WellStored (content_of self.old) }
         requires field { NestedList (message_type_of self.old) number.value kind.place kind.is_group }
-        ensures ok { IfOk result (λ rest. Step levels number.value wire_type (content_of self.old) (content_of self.new) bytes.now rest.now) }
+        ensures ok { IfOk result
+            (λ rest. Step levels number.value wire_type (content_of self.old) (content_of self.new) bytes.now
+            rest.now) }
         ensures message_type { message_type_of self.new ≡ message_type_of self.old }
         ensures typed { IfOk result (λ _. StaysTyped self.old self.new) }
-        ensures fault { IfErr result (λ e. e ≢ DecodeError.OutOfMemory → StandsBehindKey (content_of self.old) levels number.value wire_type e bytes.now) }
+        ensures fault { IfErr result
+            (λ e. e ≢ DecodeError.OutOfMemory
+            → StandsBehindKey (content_of self.old) levels number.value wire_type e bytes.now) }
     {
         let mut element = empty_message(alloc, self.message_type(), kind.place)?;
         let rest = element.merge_nested(alloc, number, kind.is_group, wire_type, bytes, levels)?;
@@ -55,8 +59,14 @@ impl DynamicMessage {
         requires known { is_known (known_of (message_type_of self.old)) number ≡ true }
         requires list { IsListOrNone (value_at number (entries_of (content_of self.old))) }
         ensures message_type { message_type_of self.new ≡ message_type_of self.old }
-        ensures content { IfOk result (λ _. content_of self.new ≡ value_set number (with_element (value_at number (entries_of (content_of self.old))) (value_of element)) (content_of self.old)) }
-        ensures typed { IfOk result (λ _. element_typed (message_type_of self.old) number (value_stored element) ≡ true → StaysTyped self.old self.new) }
+        ensures content { IfOk result
+            (λ _. content_of self.new
+            ≡ value_set number
+            (with_element (value_at number (entries_of (content_of self.old))) (value_of element))
+            (content_of self.old)) }
+        ensures typed { IfOk result
+            (λ _. element_typed (message_type_of self.old) number (value_stored element) ≡ true
+            → StaysTyped self.old self.new) }
     {
         let value = self.value_mut_or(number, Value::List(Vec::new(alloc)))?;
         push_item(value, element)

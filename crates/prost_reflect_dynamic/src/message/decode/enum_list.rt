@@ -38,8 +38,13 @@ fn push_number(
     strays: &mut Vec<u64>,
     varint: u64,
 ) -> Result<(), AllocError>
-    ensures added { IfOk result (λ _. map value_of values.new.items ≡ map value_of values.old.items ++ map number_element (declared_in (pool_rows message_type.now.pool).enums kind (varint ∷ []))) }
-    ensures left { IfOk result (λ _. strays.new.items ≡ strays.old.items ++ strays_in (pool_rows message_type.now.pool).enums kind (varint ∷ [])) }
+    ensures added { IfOk result
+        (λ _. map value_of values.new.items
+        ≡ map value_of values.old.items
+        ++ map number_element (declared_in (pool_rows message_type.now.pool).enums kind (varint ∷ []))) }
+    ensures left { IfOk result
+        (λ _. strays.new.items
+        ≡ strays.old.items ++ strays_in (pool_rows message_type.now.pool).enums kind (varint ∷ [])) }
 {
     let element = Value::EnumNumber(low_i32(varint));
     if is_stray(message_type, kind, &element) {
@@ -63,7 +68,9 @@ fn push_numbers(
     values: &mut Vec<Value>,
     body: &[u8],
 ) -> Result<Vec<u64>, DecodeError>
-    ensures ok { IfOk result (λ strays. PartsNumbers (pool_rows message_type.now.pool).enums kind (map value_of values.old.items) (map value_of values.new.items) strays.items body.now) }
+    ensures ok { IfOk result
+        (λ strays. PartsNumbers (pool_rows message_type.now.pool).enums kind (map value_of values.old.items)
+        (map value_of values.new.items) strays.items body.now) }
     ensures fault { IfErr result (λ e. e ≢ DecodeError.OutOfMemory → ElementFault wires.Varint e body.now) }
 {
     values.reserve(last_digits(body))?;
@@ -86,7 +93,9 @@ fn join_numbers(
     body: &[u8],
 ) -> Result<Vec<u64>, DecodeError>
     requires { IsList (value_of value.old) }
-    ensures ok { IfOk result (λ strays. JoinsNumbers (pool_rows message_type.now.pool).enums kind (value_of value.old) (value_of value.new) strays.items body.now) }
+    ensures ok { IfOk result
+        (λ strays. JoinsNumbers (pool_rows message_type.now.pool).enums kind (value_of value.old) (value_of value.new)
+        strays.items body.now) }
     ensures fault { IfErr result (λ e. e ≢ DecodeError.OutOfMemory → ElementFault wires.Varint e body.now) }
 {
     match value.as_list_mut() {
@@ -109,10 +118,14 @@ impl DynamicMessage {
     ) -> Result<&'a [u8], DecodeError>
         requires sound { WellStored (content_of self.old) }
         requires field { NumberList (message_type_of self.old) number.value kind }
-        ensures ok { IfOk result (λ rest. Step levels number.value wire_type (content_of self.old) (content_of self.new) bytes.now rest.now) }
+        ensures ok { IfOk result
+            (λ rest. Step levels number.value wire_type (content_of self.old) (content_of self.new) bytes.now
+            rest.now) }
         ensures message_type { message_type_of self.new ≡ message_type_of self.old }
         ensures typed { IfOk result (λ _. StaysTyped self.old self.new) }
-        ensures fault { IfErr result (λ e. e ≢ DecodeError.OutOfMemory → StandsBehindKey (content_of self.old) levels number.value wire_type e bytes.now) }
+        ensures fault { IfErr result
+            (λ e. e ≢ DecodeError.OutOfMemory
+            → StandsBehindKey (content_of self.old) levels number.value wire_type e bytes.now) }
     {
         if wire_type == WireType::LengthDelimited {
             let (body, rest) = decode_delimited(bytes)?;
@@ -138,7 +151,9 @@ impl DynamicMessage {
     ) -> Result<(), DecodeError>
         requires sound { WellStored (content_of self.old) }
         requires field { NumberList (message_type_of self.old) number.value kind }
-        ensures ok { IfOk result (λ _. BodyTaken (pool_rows (message_type_of self.old).pool).enums number.value kind (content_of self.old) (content_of self.new) body.now) }
+        ensures ok { IfOk result
+            (λ _. BodyTaken (pool_rows (message_type_of self.old).pool).enums number.value kind (content_of self.old)
+            (content_of self.new) body.now) }
         ensures message_type { message_type_of self.new ≡ message_type_of self.old }
         ensures typed { IfOk result (λ _. StaysTyped self.old self.new) }
         ensures fault { IfErr result (λ e. e ≢ DecodeError.OutOfMemory → ElementFault wires.Varint e body.now) }
@@ -163,7 +178,10 @@ impl DynamicMessage {
         requires field { NumberList (message_type_of self.old) number.value kind }
         ensures message_type { message_type_of self.new ≡ message_type_of self.old }
         ensures typed { IfOk result (λ _. StaysTyped self.old self.new) }
-        ensures content { IfOk result (λ _. content_of self.new ≡ numbers_taken (pool_rows (message_type_of self.old).pool).enums number.value kind (varint ∷ []) (content_of self.old)) }
+        ensures content { IfOk result
+            (λ _. content_of self.new
+            ≡ numbers_taken (pool_rows (message_type_of self.old).pool).enums number.value kind (varint ∷ [])
+            (content_of self.old)) }
     {
         let element = Value::EnumNumber(low_i32(varint));
         if is_stray(self.message_type(), kind, &element) {
@@ -214,7 +232,10 @@ impl DynamicMessage {
         requires known { is_known (known_of (message_type_of self.old)) number ≡ true }
         ensures message_type { message_type_of self.new ≡ message_type_of self.old }
         ensures typed { IfOk result (λ _. StaysTyped self.old self.new) }
-        ensures content { IfOk result (λ _. content_of self.new ≡ value_set number (unwrap_or (value_at number (entries_of (content_of self.old))) (ListValue NoValues)) (content_of self.old)) }
+        ensures content { IfOk result
+            (λ _. content_of self.new
+            ≡ value_set number (unwrap_or (value_at number (entries_of (content_of self.old))) (ListValue NoValues))
+            (content_of self.old)) }
     {
         self.value_mut_or(number, Value::List(Vec::new(alloc)))?;
         Ok(())

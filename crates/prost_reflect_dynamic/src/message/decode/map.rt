@@ -62,8 +62,12 @@ fn entry_at(
 ) -> Result<(Value, Value), DecodeError>
     requires key { IsSome (plain_kind key_kind) }
     requires value { IsSome (plain_kind value_kind) }
-    ensures ok { IfOk result (λ entry. ReadsEntry (pool_rows message_type.now.pool).enums levels key_kind value_kind entry.0 entry.1 body.now []) }
-    ensures fault { IfErr result (λ e. e ≢ DecodeError.OutOfMemory → RefusesEntry (pool_rows message_type.now.pool).enums levels key_kind value_kind e body.now) }
+    ensures ok { IfOk result
+        (λ entry. ReadsEntry (pool_rows message_type.now.pool).enums levels key_kind value_kind entry.0 entry.1 body.now
+        []) }
+    ensures fault { IfErr result
+        (λ e. e ≢ DecodeError.OutOfMemory
+        → RefusesEntry (pool_rows message_type.now.pool).enums levels key_kind value_kind e body.now) }
 {
     let mut key = default_of(alloc, key_kind);
     let mut value = absent_value(alloc, message_type, value_kind);
@@ -110,10 +114,14 @@ impl DynamicMessage {
     ) -> Result<&'a [u8], DecodeError>
         requires sound { WellStored (content_of self.old) }
         requires field { ScalarMap (message_type_of self.old) number.value kinds.0 kinds.1 }
-        ensures ok { IfOk result (λ rest. Step levels number.value wire_type (content_of self.old) (content_of self.new) bytes.now rest.now) }
+        ensures ok { IfOk result
+            (λ rest. Step levels number.value wire_type (content_of self.old) (content_of self.new) bytes.now
+            rest.now) }
         ensures message_type { message_type_of self.new ≡ message_type_of self.old }
         ensures typed { IfOk result (λ _. StaysTyped self.old self.new) }
-        ensures fault { IfErr result (λ e. e ≢ DecodeError.OutOfMemory → StandsBehindKey (content_of self.old) levels number.value wire_type e bytes.now) }
+        ensures fault { IfErr result
+            (λ e. e ≢ DecodeError.OutOfMemory
+            → StandsBehindKey (content_of self.old) levels number.value wire_type e bytes.now) }
     {
         let (body, rest) = entry_body(wire_type, bytes)?;
         let (key, value) = entry_at(alloc, self.message_type(), kinds.0, kinds.1, body, levels)?;
@@ -136,8 +144,14 @@ impl DynamicMessage {
         requires known { is_known (known_of (message_type_of self.old)) number ≡ true }
         requires mapped { IsMapped (value_at number (entries_of (content_of self.old))) }
         ensures message_type { message_type_of self.new ≡ message_type_of self.old }
-        ensures content { OnOk result (content_of self.new ≡ value_set number (MapValue (put (key_of key) (value_of value) (pairs_in (value_at number (entries_of (content_of self.old)))))) (content_of self.old)) }
-        ensures typed { OnOk result (entry_typed (message_type_of self.old) number (value_stored value) ≡ true → StaysTyped self.old self.new) }
+        ensures content { OnOk result
+            (content_of self.new
+            ≡ value_set number
+            (MapValue
+            (put (key_of key) (value_of value)
+            (pairs_in (value_at number (entries_of (content_of self.old)))))) (content_of self.old)) }
+        ensures typed { OnOk result
+            (entry_typed (message_type_of self.old) number (value_stored value) ≡ true → StaysTyped self.old self.new) }
     {
         let map = self.value_mut_or(number, Value::Map(BTreeMap::new(alloc)))?;
         match map.as_map_mut() {

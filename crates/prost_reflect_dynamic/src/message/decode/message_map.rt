@@ -36,10 +36,14 @@ impl DynamicMessage {
     ) -> Result<&'a [u8], DecodeError>
         requires sound { WellStored (content_of self.old) }
         requires field { NestedMap (message_type_of self.old) number.value key place }
-        ensures ok { IfOk result (λ rest. Step levels number.value wire_type (content_of self.old) (content_of self.new) bytes.now rest.now) }
+        ensures ok { IfOk result
+            (λ rest. Step levels number.value wire_type (content_of self.old) (content_of self.new) bytes.now
+            rest.now) }
         ensures message_type { message_type_of self.new ≡ message_type_of self.old }
         ensures typed { IfOk result (λ _. StaysTyped self.old self.new) }
-        ensures fault { IfErr result (λ e. e ≢ DecodeError.OutOfMemory → StandsBehindKey (content_of self.old) levels number.value wire_type e bytes.now) }
+        ensures fault { IfErr result
+            (λ e. e ≢ DecodeError.OutOfMemory
+            → StandsBehindKey (content_of self.old) levels number.value wire_type e bytes.now) }
     {
         let (body, rest) = entry_body(wire_type, bytes)?;
         if levels == 0 {
@@ -64,10 +68,15 @@ impl DynamicMessage {
         requires empty { content_of self.old ≡ empty (schema_of (content_of self.old)) (type_of (content_of self.old)) }
         requires key { IsSome (plain_kind key_kind) }
         requires some { 1 ≤ levels }
-        ensures ok { IfOk result (λ key. ReadsNestedEntry (levels - 1) key_kind key (content_of self.old) (content_of self.new) body.now []) }
+        ensures ok { IfOk result
+            (λ key. ReadsNestedEntry (levels - 1) key_kind key (content_of self.old) (content_of self.new) body.now
+            []) }
         ensures message_type { message_type_of self.new ≡ message_type_of self.old }
         ensures typed { IfOk result (λ _. StaysTyped self.old self.new) }
-        ensures fault { IfErr result (λ e. e ≢ DecodeError.OutOfMemory → RefusesNestedEntry (schema_of (content_of self.old)) levels (type_of (content_of self.old)) key_kind e body.now) }
+        ensures fault { IfErr result
+            (λ e. e ≢ DecodeError.OutOfMemory
+            → RefusesNestedEntry (schema_of (content_of self.old)) levels (type_of (content_of self.old)) key_kind e
+            body.now) }
     {
         let mut key = default_of(alloc, key_kind);
         let mut rest = body;

@@ -40,10 +40,14 @@ impl DynamicMessage {
         requires sound { WellStored (content_of self.old) }
         requires field { NestedField (message_type_of self.old) number.value kind.place kind.is_group }
         requires oneof { oneof ≡ oneof_of (known_of (message_type_of self.old)) number.value }
-        ensures ok { IfOk result (λ rest. Step levels number.value wire_type (content_of self.old) (content_of self.new) bytes.now rest.now) }
+        ensures ok { IfOk result
+            (λ rest. Step levels number.value wire_type (content_of self.old) (content_of self.new) bytes.now
+            rest.now) }
         ensures message_type { message_type_of self.new ≡ message_type_of self.old }
         ensures typed { IfOk result (λ _. StaysTyped self.old self.new) }
-        ensures fault { IfErr result (λ e. e ≢ DecodeError.OutOfMemory → StandsBehindKey (content_of self.old) levels number.value wire_type e bytes.now) }
+        ensures fault { IfErr result
+            (λ e. e ≢ DecodeError.OutOfMemory
+            → StandsBehindKey (content_of self.old) levels number.value wire_type e bytes.now) }
     {
         match self.value_mut(number.get()) {
             Some(value) => DynamicMessage::merge_into(
@@ -75,10 +79,14 @@ impl DynamicMessage {
         requires field { NestedField (message_type_of self.old) number.value kind.place kind.is_group }
         requires oneof { oneof ≡ oneof_of (known_of (message_type_of self.old)) number.value }
         requires none { value_at number.value (entries_of (content_of self.old)) ≡ None }
-        ensures ok { IfOk result (λ rest. Step levels number.value wire_type (content_of self.old) (content_of self.new) bytes.now rest.now) }
+        ensures ok { IfOk result
+            (λ rest. Step levels number.value wire_type (content_of self.old) (content_of self.new) bytes.now
+            rest.now) }
         ensures message_type { message_type_of self.new ≡ message_type_of self.old }
         ensures typed { IfOk result (λ _. StaysTyped self.old self.new) }
-        ensures fault { IfErr result (λ e. e ≢ DecodeError.OutOfMemory → StandsBehindKey (content_of self.old) levels number.value wire_type e bytes.now) }
+        ensures fault { IfErr result
+            (λ e. e ≢ DecodeError.OutOfMemory
+            → StandsBehindKey (content_of self.old) levels number.value wire_type e bytes.now) }
     {
         let mut first = empty_message(alloc, self.message_type(), kind.place)?;
         let rest = first.merge_nested(alloc, number, kind.is_group, wire_type, bytes, levels)?;
@@ -98,9 +106,13 @@ impl DynamicMessage {
         levels: u32,
     ) -> Result<&'a [u8], DecodeError>
         requires { HeldMessage (message_in (out-Value value.old)) }
-        ensures ok { IfOk result (λ rest. ReadIntoHeld is_group levels number.value wire_type (message_in (out-Value value.old)) (value_of value.new) bytes.now rest.now) }
+        ensures ok { IfOk result
+            (λ rest. ReadIntoHeld is_group levels number.value wire_type (message_in (out-Value value.old))
+            (value_of value.new) bytes.now rest.now) }
         ensures typed { IfOk result (λ _. ValueStaysTyped value.old value.new) }
-        ensures fault { IfErr result (λ e. e ≢ DecodeError.OutOfMemory → StandsInHeld is_group levels number.value wire_type (message_in (out-Value value.old)) e bytes.now) }
+        ensures fault { IfErr result
+            (λ e. e ≢ DecodeError.OutOfMemory
+            → StandsInHeld is_group levels number.value wire_type (message_in (out-Value value.old)) e bytes.now) }
     {
         match value.as_message_mut() {
             Some(message) => {
@@ -123,10 +135,15 @@ impl DynamicMessage {
         levels: u32,
     ) -> Result<&'a [u8], DecodeError>
         requires sound { WellStored (content_of self.old) }
-        ensures ok { IfOk result (λ rest. NestedRead is_group levels number.value wire_type (content_of self.old) (content_of self.new) bytes.now rest.now) }
+        ensures ok { IfOk result
+            (λ rest. NestedRead is_group levels number.value wire_type (content_of self.old) (content_of self.new)
+            bytes.now rest.now) }
         ensures message_type { message_type_of self.new ≡ message_type_of self.old }
         ensures typed { IfOk result (λ _. StaysTyped self.old self.new) }
-        ensures fault { IfErr result (λ e. e ≢ DecodeError.OutOfMemory → StandsBehindNested (schema_of (content_of self.old)) levels number.value (nested_kind is_group (type_of (content_of self.old))) wire_type e bytes.now) }
+        ensures fault { IfErr result
+            (λ e. e ≢ DecodeError.OutOfMemory
+            → StandsBehindNested (schema_of (content_of self.old)) levels number.value
+            (nested_kind is_group (type_of (content_of self.old))) wire_type e bytes.now) }
     {
         check_nested(is_group, wire_type, levels)?;
         if is_group {
@@ -148,10 +165,12 @@ impl DynamicMessage {
         levels: u32,
     ) -> Result<&'a [u8], DecodeError>
         requires sound { WellStored (content_of self.old) }
-        ensures ok { IfOk result (λ rest. GroupProgress levels number.value (content_of self.old) (content_of self.new) bytes.now rest.now) }
+        ensures ok { IfOk result
+            (λ rest. GroupProgress levels number.value (content_of self.old) (content_of self.new) bytes.now rest.now) }
         ensures message_type { message_type_of self.new ≡ message_type_of self.old }
         ensures typed { IfOk result (λ _. StaysTyped self.old self.new) }
-        ensures fault { IfErr result (λ e. e ≢ DecodeError.OutOfMemory → StandsInGroup (content_of self.old) levels number.value e bytes.now) }
+        ensures fault { IfErr result
+            (λ e. e ≢ DecodeError.OutOfMemory → StandsInGroup (content_of self.old) levels number.value e bytes.now) }
     {
         let mut rest = bytes;
         loop {

@@ -69,7 +69,9 @@ fn fixed32_value(kind: TableKind, bytes: [u8; 4]) -> Value
 fn delimited_value(alloc: Global, kind: TableKind, bytes: &[u8]) -> Result<Value, DecodeError>
     requires { HasWire kind wires.LengthDelimited }
     ensures ok { IfOk result (λ v. IsElement kind (Flat (Len bytes.now)) v) }
-    ensures err { IfErr result (λ e. (e ≡ DecodeError.OutOfMemory) ⊎ ((e ≡ DecodeError.Utf8) × (kind ≡ TableKind.String) × (is_utf8 bytes.now ≡ false))) }
+    ensures err { IfErr result
+        (λ e. (e ≡ DecodeError.OutOfMemory)
+        ⊎ ((e ≡ DecodeError.Utf8) × (kind ≡ TableKind.String) × (is_utf8 bytes.now ≡ false))) }
 {
     match kind {
         TableKind::Bytes => Ok(Value::Bytes(Vec::from_slice(alloc, bytes)?)),

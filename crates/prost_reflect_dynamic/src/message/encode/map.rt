@@ -33,7 +33,9 @@ fn write_pair<S: Sink>(
 )
     requires key { TakesScalar (field_row key_field.now).kind (ScalarValue (key_of key.now)) }
     requires value { TakesScalar (field_row value_field.now).kind (value_of value.now) }
-    ensures { Adds S.added sink.old sink.new (entry_bytes number (pool_rows message_type.now.pool).enums (field_row key_field.now) (field_row value_field.now) (key_of key.now) (value_of value.now)) }
+    ensures { Adds S.added sink.old sink.new
+        (entry_bytes number (pool_rows message_type.now.pool).enums (field_row key_field.now)
+        (field_row value_field.now) (key_of key.now) (value_of value.now)) }
 {
     let before = sink.len();
     write_kept_scalar(sink, message_type, 2, value_field, value.scalar());
@@ -52,7 +54,9 @@ fn write_pairs<S: Sink>(
     pairs: &BTreeMap<MapKey, Value>,
 )
     requires { TakesPairs (field_row key_field.now).kind (field_row value_field.now).kind pairs.now.entries }
-    ensures { Adds S.added sink.old sink.new (pairs_bytes number (pool_rows message_type.now.pool).enums (field_row key_field.now) (field_row value_field.now) pairs.now.entries) }
+    ensures { Adds S.added sink.old sink.new
+        (pairs_bytes number (pool_rows message_type.now.pool).enums (field_row key_field.now)
+        (field_row value_field.now) pairs.now.entries) }
 {
     for (key, value) in pairs.iter().rev() {
         write_pair(

@@ -66,7 +66,8 @@ impl DynamicMessage {
         ensures parts { IfOk result (EachTaken (λ p. IsPart self.old (number_of p.0) p.1)) }
         ensures message_type { message_type_of self.new ≡ message_type_of self.old }
         ensures removes { OnOk result (Removes (values_taken false) self.old self.new) }
-        ensures gone { OnOk result ((n : ℕ) → is_field_number (message_type_of self.old) n ≡ true → has_at n (content_of self.new) ≡ false) }
+        ensures gone { OnOk result
+            ((n : ℕ) → is_field_number (message_type_of self.old) n ≡ true → has_at n (content_of self.new) ≡ false) }
         ensures err { OnErr result (self.new ≡ self.old) }
     {
         let fields = self.had_fields(alloc)?;
@@ -87,7 +88,9 @@ impl DynamicMessage {
         ensures parts { IfOk result (EachTaken (λ p. IsPart self.old (extension_number p.0) p.1)) }
         ensures message_type { message_type_of self.new ≡ message_type_of self.old }
         ensures removes { OnOk result (Removes (values_taken true) self.old self.new) }
-        ensures gone { OnOk result ((n : ℕ) → is_listed true (known_of (message_type_of self.old)) n ≡ true → has_at n (content_of self.new) ≡ false) }
+        ensures gone { OnOk result
+            ((n : ℕ) → is_listed true (known_of (message_type_of self.old)) n ≡ true
+            → has_at n (content_of self.new) ≡ false) }
         ensures err { OnErr result (self.new ≡ self.old) }
     {
         let extensions = self.had_extensions(alloc)?;

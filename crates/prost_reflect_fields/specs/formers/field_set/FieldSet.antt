@@ -66,7 +66,8 @@ module _ {X Y : Type 0} (h : X → Y) where
       cases true rest = refl
       cases false rest = rest
 
-  value_over : (o : Option (FieldSlot X)) → is_some (option_and_then value_in (option_map over_slot o)) ≡ is_some (option_and_then value_in o)
+  value_over : (o : Option (FieldSlot X))
+      → is_some (option_and_then value_in (option_map over_slot o)) ≡ is_some (option_and_then value_in o)
   value_over None = refl
   value_over (Some (Value x)) = refl
   value_over (Some (Unknown u)) = refl
@@ -98,11 +99,15 @@ module _ {X Y : Type 0} (h : X → Y) where
     λ m n v w. sym (has_value_over es n) ∙ s.2 m n (has_value_over es m ∙ v) w,
   )
 
-  noted_over : (fields : List Field) (notes : Option (List (ℕ × ℕ))) (es : List (ℕ × FieldSlot X)) → AreNoted fields notes es → AreNoted fields notes (map over_item es)
+  noted_over : (fields : List Field) (notes : Option (List (ℕ × ℕ))) (es : List (ℕ × FieldSlot X))
+      → AreNoted fields notes es
+      → AreNoted fields notes (map over_item es)
   noted_over fields None es s = tt
   noted_over fields (Some notes) es s = (s.0, λ o m v w. s.1 o m (sym (has_value_over es m) ∙ v) w)
 
-  noted_under : (fields : List Field) (notes : Option (List (ℕ × ℕ))) (es : List (ℕ × FieldSlot X)) → AreNoted fields notes (map over_item es) → AreNoted fields notes es
+  noted_under : (fields : List Field) (notes : Option (List (ℕ × ℕ))) (es : List (ℕ × FieldSlot X))
+      → AreNoted fields notes (map over_item es)
+      → AreNoted fields notes es
   noted_under fields None es s = tt
   noted_under fields (Some notes) es s = (s.0, λ o m v w. s.1 o m (has_value_over es m ∙ v) w)
 
@@ -113,18 +118,23 @@ sound_prop fields es = λ a b i. (
   λ m n v w. Bool-set _ _ (a.2 m n v w) (b.2 m n v w) i,
 )
 
-noted_prop : {X : Type 0} (fields : List Field) (notes : Option (List (ℕ × ℕ))) (es : List (ℕ × FieldSlot X)) → IsProp (AreNoted fields notes es)
+noted_prop : {X : Type 0} (fields : List Field) (notes : Option (List (ℕ × ℕ))) (es : List (ℕ × FieldSlot X))
+    → IsProp (AreNoted fields notes es)
 noted_prop fields None es = Unit-prop
 noted_prop fields (Some notes) es = λ a b i. (
   λ o m v. Bool-set _ _ (a.0 o m v) (b.0 o m v) i,
   λ o m v w. Bool-set _ _ (a.1 o m v w) (b.1 o m v w) i,
 )
 
-held_prop : {X : Type 0} (fields : List Field) (notes : Option (List (ℕ × ℕ))) (es : List (ℕ × FieldSlot X)) → IsProp (Sound fields es × AreNoted fields notes es)
+held_prop : {X : Type 0} (fields : List Field) (notes : Option (List (ℕ × ℕ))) (es : List (ℕ × FieldSlot X))
+    → IsProp (Sound fields es × AreNoted fields notes es)
 held_prop fields notes es = λ a b i. (sound_prop fields es a.0 b.0 i, noted_prop fields notes es a.1 b.1 i)
 
 module _ (R S : RattleType) (h : R.Denot → S.Denot) where
-  variant : (e : FieldSlot R.Denot) → (E.enum S).as_values (over_slot h e) ≡ eachs (E.enum R).parts (E.enum S).parts ((h, tt), (((λ u. u), tt), ((h, ((λ u. u), tt)), tt))) ((E.enum R).as_values e)
+  variant : (e : FieldSlot R.Denot)
+      → (E.enum S).as_values (over_slot h e)
+      ≡ eachs (E.enum R).parts (E.enum S).parts ((h, tt), (((λ u. u), tt), ((h, ((λ u. u), tt)), tt)))
+      ((E.enum R).as_values e)
   variant (Value x) = refl
   variant (Unknown u) = refl
   variant (Both x u) = refl

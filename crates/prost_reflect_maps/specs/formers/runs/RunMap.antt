@@ -56,13 +56,17 @@ in_front {c = c} e = λ i. gcons (e i) c
 -- the items of all runs are what the runs hold
 module _ (X : Type 0) where
   held_appended : (xs ys : List (ℕ × X)) (n : Count) (t : Row X n)
-      → ◌≡◌ {A = Held X} ((list item).count (map (item.shape X) (xs ++ ys)) n, (list item).put X (xs ++ ys) n t)
-      ((list item).count (map (item.shape X) xs) ((list item).count (map (item.shape X) ys) n), (list item).put X xs ((list item).count (map (item.shape X) ys) n) ((list item).put X ys n t))
+      → ◌≡◌ {A = Held X} ((list item).count (map (item.shape X) (xs ++ ys)) n, (list item).put X (xs ++ ys) n t) (
+        (list item).count (map (item.shape X) xs) ((list item).count (map (item.shape X) ys) n),
+        (list item).put X xs
+            ((list item).count (map (item.shape X) ys) n) ((list item).put X ys n t),
+      )
   held_appended [] ys n t = refl
   held_appended (x ∷ xs) ys n t = ap (λ (e : Held X). (item.count (item.shape X x) e.0, item.put X x e.0 e.1)) (held_appended xs ys n t)
 
   held_runs : (rs : Runs X) (n : Count) (t : Row X n)
-      → ◌≡◌ {A = Held X} ((list item).count (map (item.shape X) (flat rs)) n, (list item).put X (flat rs) n t) ((list run).count (map (run.shape X) rs) n, (list run).put X rs n t)
+      → ◌≡◌ {A = Held X} ((list item).count (map (item.shape X) (flat rs)) n, (list item).put X (flat rs) n t)
+      ((list run).count (map (run.shape X) rs) n, (list run).put X rs n t)
   held_runs [] n t = refl
   held_runs (r ∷ rs) n t = held_appended r.1.items (flat rs) n t ∙ ap (λ (e : Held X). ((list item).count (map (item.shape X) r.1.items) e.0, (list item).put X r.1.items e.0 e.1)) (held_runs rs n t)
 

@@ -90,14 +90,21 @@ module _ {X Y : Type 0} (h : X → Y) where
   items_over (Laid es) = refl
 
 module _ (X : Type 0) where
-  held_same : (d : Held X) → ◌≡◌ {A = Placed X} ((list item).count (map (item.shape X) (held_items d).0) none_left, (list item).put X (held_items d).0 none_left tt) (held.count (held.shape X d) none_left, held.put X d none_left tt)
+  held_same : (d : Held X)
+      → ◌≡◌ {A = Placed X} (
+        (list item).count (map (item.shape X) (held_items d).0) none_left,
+        (list item).put X (held_items d).0
+            none_left tt,
+      ) (held.count (held.shape X d) none_left, held.put X d none_left tt)
   held_same (Empty alloc room) = refl
   held_same (Listed es) = refl
   held_same (Laid es) = refl
 
 module _ (R S : RattleType) (h : R.Denot → S.Denot) where
-  variant : (d : Held R.Denot) → (H.enum S).as_values (over_held h d)
-      ≡ eachs (H.enum R).parts (H.enum S).parts (((λ a. a), ((λ n. n), tt)), ((map (over_item h), tt), ((over_noted h, tt), tt))) ((H.enum R).as_values d)
+  variant : (d : Held R.Denot)
+      → (H.enum S).as_values (over_held h d)
+      ≡ eachs (H.enum R).parts (H.enum S).parts
+      (((λ a. a), ((λ n. n), tt)), ((map (over_item h), tt), ((over_noted h, tt), tt))) ((H.enum R).as_values d)
   variant (Empty alloc room) = refl
   variant (Listed es) = refl
   variant (Laid es) = refl
